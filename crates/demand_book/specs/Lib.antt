@@ -1,0 +1,3 @@
+pub mod Overwritten
+pub mod Book
+pub mod Inside

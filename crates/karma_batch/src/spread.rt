@@ -1,0 +1,59 @@
+ghost use Rattle.std.specs.Prelude.{◌≡◌, ℕ, ◌+◌, ◌^◌, ◌<◌, ◌≤◌, length, sum_by, All};
+ghost use Rattle.karma_rule.specs.OpenRow.{IsOpenRow};
+ghost use Rattle.karma_batch.specs.Levels.{key_of, room_of, moved_by, extra, amount, amounts, all_moved, Spreads};
+
+use crate::level::{level_for, sum_above};
+use crate::side::{Side, key, part_above, room};
+use karma_rule::Row;
+
+fn move_by(row: &mut Row, side: Side, slices: u64)
+    requires credits { row.old.credits + slices < 2 ^ 64 }
+    requires given { row.old.given + slices < 2 ^ 64 }
+    requires pays { slices ≤ key_of side row.old }
+    ensures { row.new ≡ moved_by side row.old slices }
+{
+    match side {
+        Side::Borrowers => row.credits -= slices,
+        Side::Donors => row.credits += slices,
+    }
+    row.given += slices;
+}
+
+/// Moves the row's slices above the level, and one more where it is at the level then and `rest` isn't used up. The
+/// answer is how many of the rest it used.
+fn move_part(row: &mut Row, side: Side, floor: u64, level: u64, rest: u64) -> u64
+    requires floor { floor ≤ 2 ^ 32 }
+    requires row_open { IsOpenRow floor row.old }
+    ensures moved { row.new ≡ moved_by side row.old (amount side floor level rest row.old) }
+    ensures extra { result ≡ extra side floor level rest row.old }
+{
+    let part = part_above(row, side, floor, level);
+    let at_level = part < room(row, side, floor) && key(row, side) - part == level;
+    let extra = if rest > 0 && at_level { 1 } else { 0 };
+    move_by(row, side, part + extra);
+    extra
+}
+
+/// Moves all slices above the level, and of the rest one for each row at the level, by number.
+fn spread_at(rows: &mut [Row], side: Side, floor: u64, level: u64, mut rest: u64)
+    requires floor { floor ≤ 2 ^ 32 }
+    requires rows_open { All (IsOpenRow floor) rows.old }
+    ensures { rows.new ≡ all_moved side rows.old (amounts side floor level rest rows.old) }
+{
+    for row in rows.iter_mut() {
+        rest -= move_part(row, side, floor, level, rest);
+    }
+}
+
+/// Moves `count` slices of a side, each by the row that comes first then.
+pub fn spread_count(rows: &mut [Row], side: Side, floor: u64, count: u64)
+    requires users { length rows.old ≤ 1024 }
+    requires floor { floor ≤ 2 ^ 32 }
+    requires rows_open { All (IsOpenRow floor) rows.old }
+    requires count { count ≤ sum_by (room_of side floor) rows.old }
+    ensures { Spreads side floor count rows.old rows.new }
+{
+    let level = level_for(rows, side, floor, count);
+    let rest = count - sum_above(rows, side, floor, level);
+    spread_at(rows, side, floor, level, rest);
+}

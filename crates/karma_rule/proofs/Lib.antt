@@ -1,0 +1,13 @@
+pub mod FirstBest
+pub mod Changes
+pub mod Walks
+pub mod Loans
+pub mod RowsOfUsers
+pub mod LoanOfRows
+pub mod OneLoan
+pub mod InOrder
+pub mod Ends
+pub mod Laws
+pub mod Unique
+pub mod Counts
+pub mod WorkedRows

@@ -1,0 +1,4 @@
+pub mod Karma
+pub mod Laws
+pub mod Limits
+pub mod OpenRow

@@ -1,0 +1,34 @@
+-- The rows of a quantum that is open: how they stand for its users.
+use Rattle.std.specs.Prelude.{ℕ, ◌+◌, ◌-◌, ◌^◌, ◌<◌, ◌≤◌, min, max, Bool, ◌&&◌, nat_lt, List, map}
+use Rattle.karma_rule.specs.declared.row.Row.{Row}
+use Rattle.karma_rule.specs.Karma.{User, Quantum}
+
+-- At the close, what was lent is no longer counted.
+abbrev pub closed : Row → Row
+closed row = record row { given = min row.given row.demand }
+
+-- While a quantum is open, `given` counts the slices of a user's floor that are in use, lent ones too.
+abbrev pub user_of : ℕ → Row → User
+user_of floor row = record { row = closed row; left = floor - row.given }
+
+abbrev pub quantum_of : ℕ → List Row → ℕ → Quantum
+quantum_of floor rows shared = record { users = map (user_of floor) rows; shared = shared }
+
+-- a row of an open quantum: its given slices are filled up to the floor, and no number will overflow
+pub record IsOpenRow (floor : ℕ) (row : Row) : Type 0 where
+  pub filled : min floor row.demand ≤ row.given
+  pub wanted : row.given ≤ max row.demand floor
+  pub small : row.demand ≤ 2 ^ 42
+  pub room : row.credits + (floor - row.given) < 2 ^ 63
+
+abbrev pub row_borrows : Row → Bool
+row_borrows row = nat_lt row.given row.demand && nat_lt 0 row.credits
+
+abbrev pub row_lends : ℕ → Row → Bool
+row_lends floor row = nat_lt row.given floor
+
+abbrev pub has_more : Row → Row → Bool
+has_more row other = nat_lt other.credits row.credits
+
+abbrev pub has_fewer : Row → Row → Bool
+has_fewer row other = nat_lt row.credits other.credits

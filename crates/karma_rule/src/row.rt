@@ -1,0 +1,21 @@
+/// The greatest demand of a user, in slices.
+pub const MOST_DEMAND: u64 = 1 << 42;
+
+/// One user's line of a quantum. A user's number is the place of its row.
+#[derive(Clone, Copy, Debug, PartialEq, Eq)]
+pub struct Row {
+    /// How many slices the user wants.
+    pub demand: u64,
+    /// What the user may still spend, one credit for each borrowed slice.
+    pub credits: u64,
+    /// How many slices the last quantum gave to the user.
+    pub given: u64,
+}
+
+/// What each user has a right to, in slices: the fair share, and the floor, the part of it that is never lent
+/// while the user wants it.
+#[derive(Clone, Copy, Debug, PartialEq, Eq)]
+pub struct Share {
+    pub fair: u64,
+    pub floor: u64,
+}

@@ -1,0 +1,139 @@
+ghost use Rattle.std.specs.Prelude.{◌≡◌, ◌≤◌, IfOk, IfErr};
+ghost use Rattle.karma_rule.specs.Limits.{shape_of, IsPlan, IsStore, IsFirstBroken};
+
+use crate::row::Share;
+
+const MOST_USERS: u64 = 1024;
+
+const MOST_FAIR: u64 = 1 << 32;
+
+const MOST_CREDITS: u64 = 1 << 60;
+
+const LEAST_SLICE: u64 = 64;
+
+const MOST_SLICE: u64 = 65536;
+/// How many bytes all slices may have together.
+const MOST_BYTES: u64 = 1 << 30;
+/// How many slices all users together may reserve room for, where each reserves room for every slice.
+const MOST_ROOM: u64 = 1 << 22;
+
+/// The fixed numbers of a pool: how many users share it, what each has a right to, the credits that each starts
+/// with, and the size of a slice in bytes, which is 0 where slices are only counted.
+///
+/// `docs/RULES.md` has the limits.
+#[derive(Clone, Copy, Debug, PartialEq, Eq)]
+pub struct Shape {
+    pub users: u32,
+    pub share: Share,
+    pub credits: u64,
+    pub slice: u32,
+}
+
+/// A limit that the numbers of a shape break.
+///
+/// `place` names the first: 1 the users, 2 the fair share, 3 the floor, 4 the starting credits, 5 the size of a
+/// slice, 6 one of the two products (the bytes of all slices, and the room that all users reserve).
+#[derive(Clone, Copy, Debug, PartialEq, Eq)]
+pub struct BadShape {
+    pub place: u8,
+}
+
+impl Shape {
+    /// The shape of a plan, which only counts slices: its slice size is 0.
+    pub fn plan(users: u64, fair: u64, floor: u64, credits: u64) -> Result<Shape, BadShape>
+        ensures shape { IfOk result (λ shape. shape ≡ shape_of users fair floor credits 0) }
+        ensures within { IfOk result IsPlan }
+        ensures broken { IfErr result (λ bad.
+            IsFirstBroken (shape_of users fair floor credits 0) bad.place) }
+        ensures of_plan { IfErr result (λ bad. bad.place ≤ 4) }
+    {
+        if users < 1 || users > MOST_USERS {
+            return Err(BadShape { place: 1 });
+        }
+        if fair < 1 || fair > MOST_FAIR {
+            return Err(BadShape { place: 2 });
+        }
+        if floor > fair {
+            return Err(BadShape { place: 3 });
+        }
+        if credits > MOST_CREDITS {
+            return Err(BadShape { place: 4 });
+        }
+        Ok(Shape {
+            users: users as u32,
+            share: Share { fair, floor },
+            credits,
+            slice: 0,
+        })
+    }
+
+    /// The shape of a store, whose slices have `slice` bytes each.
+    pub fn store(
+        users: u64,
+        fair: u64,
+        floor: u64,
+        credits: u64,
+        slice: u64,
+    ) -> Result<Shape, BadShape>
+        ensures shape { IfOk result (λ shape. shape ≡ shape_of users fair floor credits slice) }
+        ensures within { IfOk result IsStore }
+        ensures broken { IfErr result (λ bad.
+            IsFirstBroken (shape_of users fair floor credits slice) bad.place) }
+    {
+        let plan = Shape::plan(users, fair, floor, credits)?;
+        if slice < LEAST_SLICE || slice > MOST_SLICE {
+            return Err(BadShape { place: 5 });
+        }
+        let slices = users * fair;
+        if slices * slice > MOST_BYTES || users * slices > MOST_ROOM {
+            return Err(BadShape { place: 6 });
+        }
+        Ok(Shape {
+            slice: slice as u32,
+            ..plan
+        })
+    }
+}
+
+#[cfg(test)]
+mod tests {
+    use super::*;
+
+    #[test]
+    fn first_broken_limit(rt: HostRuntime) {
+        let plans = [
+            (1, 1, 0, 0, 0),
+            (
+                1024,
+                4_294_967_296,
+                4_294_967_296,
+                1_152_921_504_606_846_976,
+                0,
+            ),
+            (0, 0, 1, 0, 1),
+            (1025, 1, 0, 0, 1),
+            (1, 0, 1, 0, 2),
+            (1, 4_294_967_297, 0, 0, 2),
+            (1, 5, 6, 1_152_921_504_606_846_977, 3),
+            (1, 5, 5, 1_152_921_504_606_846_977, 4),
+        ];
+        for (users, fair, floor, credits, place) in plans {
+            let broken = Shape::plan(users, fair, floor, credits).err();
+            assert_eq!(rt; broken.map_or(0, |bad| bad.place), place);
+        }
+
+        let stores = [
+            (1, 16_384, 0, 65_536, 0),
+            (64, 1024, 0, 64, 0),
+            (1, 0, 0, 63, 2),
+            (1, 1, 0, 63, 5),
+            (1, 1, 0, 65_537, 5),
+            (1, 16_385, 0, 65_536, 6),
+            (64, 1025, 0, 64, 6),
+        ];
+        for (users, fair, floor, slice, place) in stores {
+            let broken = Shape::store(users, fair, floor, 0, slice).err();
+            assert_eq!(rt; broken.map_or(0, |bad| bad.place), place);
+        }
+    }
+}
