@@ -1,0 +1,28 @@
+-- A set of numbers below a bound, as a list: place `id` says whether `id` is a member.
+use Rattle.std.specs.Prelude.{ℕ, Bool, true, false, List, Option, replicate, slice_index_or, slice_set, position, count_by}
+
+-- no number below the bound
+abbrev pub empty : ℕ → List Bool
+empty bound = replicate bound false
+
+-- every number below the bound
+abbrev pub full : ℕ → List Bool
+full bound = replicate bound true
+
+-- whether a number is a member
+abbrev pub contains : List Bool → ℕ → Bool
+contains members id = slice_index_or members id false
+
+abbrev pub insert : List Bool → ℕ → List Bool
+insert members id = slice_set members id true
+
+abbrev pub remove : List Bool → ℕ → List Bool
+remove members id = slice_set members id false
+
+-- the lowest member
+abbrev pub first : List Bool → Option ℕ
+first members = position (λ member. member) members
+
+-- how many members there are
+abbrev pub count : List Bool → ℕ
+count members = count_by (λ member. member) members

@@ -1,0 +1,152 @@
+//! Sets of numbers below a bound, in room that is reserved when they are made. Each call takes a few
+//! steps, whatever the bound: six levels of bits, each saying which words of the level below aren't zero.
+#![tactic(auto)]
+
+ghost use Rattle.std.specs.Prelude.{◌≡◌, ◌+◌, ◌<◌, length, not, IfOk};
+ghost use Rattle.id_set.specs.IdSet as set;
+
+use crate::bits::{Bits, Flags, Level};
+use std::alloc::{AllocError, Global};
+use std::marker::Model;
+
+mod bits;
+
+type Members = Level<Level<Level<Level<Level<Flags>>>>>;
+
+/// A set of numbers below a bound.
+#[derive(Drop)]
+pub struct IdSet {
+    members: Members,
+    count: u32,
+}
+
+impl Model for IdSet {
+    ghost use Rattle.std.specs.Prelude.{◌≡◌, Bool, List};
+    ghost use Rattle.id_set.specs.IdSet as set;
+
+    ghost Value = { List Bool };
+
+    ghost view = { λ s. s.members };
+
+    ghost invariant = { λ s. s.count ≡ set.count s.members };
+}
+
+impl IdSet {
+    /// The set of no number below the bound.
+    pub fn new(alloc: Global, bound: u32) -> Result<IdSet, AllocError>
+        ensures { IfOk result (λ made. made ≡ set.empty bound) }
+    {
+        Ok(IdSet {
+            members: Bits::filled(alloc, bound, false)?,
+            count: 0,
+        })
+    }
+
+    /// The set of every number below the bound.
+    pub fn full(alloc: Global, bound: u32) -> Result<IdSet, AllocError>
+        ensures { IfOk result (λ made. made ≡ set.full bound) }
+    {
+        Ok(IdSet {
+            members: Bits::filled(alloc, bound, true)?,
+            count: bound,
+        })
+    }
+
+    /// The number below which every member is.
+    pub fn bound(&self) -> u32
+        ensures { result ≡ length self.now }
+    {
+        self.members.bound()
+    }
+
+    /// How many members there are.
+    pub fn count(&self) -> u32
+        ensures { result ≡ set.count self.now }
+    {
+        self.count
+    }
+
+    pub fn contains(&self, id: u32) -> bool
+        ensures { result ≡ set.contains self.now id }
+    {
+        self.members.contains(id)
+    }
+
+    /// Adds a number, and says whether it wasn't a member before.
+    pub fn insert(&mut self, id: u32) -> bool
+        requires { id < length self.old }
+        ensures members { self.new ≡ set.insert self.old id }
+        ensures added { result ≡ not (set.contains self.old id) }
+    {
+        if self.members.contains(id) {
+            return false;
+        }
+        self.members.insert(id);
+        self.count += 1;
+        true
+    }
+
+    /// Takes a number out, and says whether it was a member before.
+    pub fn remove(&mut self, id: u32) -> bool
+        ensures members { self.new ≡ set.remove self.old id }
+        ensures removed { result ≡ set.contains self.old id }
+    {
+        if !self.members.contains(id) {
+            return false;
+        }
+        self.members.remove(id);
+        self.count -= 1;
+        true
+    }
+
+    /// The lowest member.
+    pub fn first(&self) -> Option<u32>
+        ensures { result ≡ set.first self.now }
+    {
+        self.members.first()
+    }
+}
+
+#[cfg(test)]
+mod tests {
+    use super::*;
+    use std::test::Fail;
+
+    #[test]
+    fn keeps_members_in_order(rt: HostRuntime) -> Result<(), Fail> {
+        let mut ids = IdSet::new(rt.alloc(), 5000)?;
+        assert_eq!(rt; ids.first(), None);
+        assert!(rt; ids.bound() == 5000);
+        assert!(rt; ids.insert(4999));
+        assert!(rt; ids.insert(64));
+        assert!(rt; ids.insert(130));
+        assert!(rt; !ids.insert(130), "it is there already");
+        assert_eq!(rt; ids.first(), Some(64));
+        assert_eq!(rt; ids.count(), 3);
+        assert!(rt; ids.remove(64));
+        assert!(rt; !ids.remove(64), "it is gone already");
+        assert!(rt; !ids.remove(70_000), "past the bound");
+        assert_eq!(rt; ids.first(), Some(130));
+        assert!(rt; ids.contains(4999) && !ids.contains(64) && !ids.contains(70_000));
+        Ok(())
+    }
+
+    #[test]
+    fn has_room_at_every_bound(rt: HostRuntime) -> Result<(), Fail> {
+        for bound in [1, 63, 64, 65, 4096, 4097, 4_194_304] {
+            let mut ids = IdSet::full(rt.alloc(), bound)?;
+            assert_eq!(rt; ids.count(), bound);
+            assert_eq!(rt; ids.first(), Some(0));
+            let mut taken = 0u32;
+            for id in 0..bound - 1 {
+                taken = taken.saturating_add(u32::from(ids.remove(id)));
+            }
+            assert_eq!(rt;
+                (taken, ids.count(), ids.first()),
+                (bound - 1, 1, Some(bound - 1))
+            );
+            assert!(rt; !ids.contains(bound));
+        }
+        Ok(())
+    }
+}
