@@ -309,16 +309,16 @@ module _ (floor : ℕ) (rows0 : List Row) (start : (k : ℕ) → k < length rows
 -- ---- the same, from what `spread` ensures
 module _ (floor : ℕ) (rows0 new1 : List Row) (start : (k : ℕ) → k < length rows0 → IsOpened floor (row_at rows0 k)) (loans : ℕ) (s1 : Spreads Borrowers floor loans rows0 new1) where
   pub spread_open : All (IsOpenRow floor) new1
-  spread_open = subst (λ (rows : List Row). All (IsOpenRow floor) rows) (sym s1.new_is) (open1 floor rows0 start loans s1.ns s1.spread)
+  spread_open = subst (λ (rows : List Row). All (IsOpenRow floor) rows) (sym s1.new_is) (open1 floor rows0 start loans s1.moved s1.spread)
 
   pub room_spread : sum_by (room_of Donors floor) new1 ≡ sum_by (room_of Donors floor) rows0
-  room_spread = ap (sum_by (room_of Donors floor)) s1.new_is ∙ lender_room floor rows0 start loans s1.ns s1.spread
+  room_spread = ap (sum_by (room_of Donors floor)) s1.new_is ∙ lender_room floor rows0 start loans s1.moved s1.spread
 
   pub batch_ends : (lent : ℕ) (new2 : List Row) → Spreads Donors floor lent new1 new2 → (shared : ℕ) → loans ≡ min (sum_by (room_of Borrowers floor) rows0) (sum_by (room_of Donors floor) rows0 + shared) → lent ≡ min loans (sum_by (room_of Donors floor) rows0) → map (user_of floor) new2 ≡ (closing (quantum_of floor rows0 shared)).users
   batch_ends lent new2 s2 shared el et =
-      let sl : IsSpread Donors floor lent (all_moved Borrowers rows0 s1.ns) s2.ns = subst (λ (rows : List Row). IsSpread Donors floor lent rows s2.ns) s1.new_is s2.spread in
-      ap (map (user_of floor)) (s2.new_is ∙ ap (λ rows. all_moved Donors rows s2.ns) s1.new_is)
-      ∙ batch_is floor rows0 start loans s1.ns s1.spread lent s2.ns sl shared el et
+      let sl : IsSpread Donors floor lent (all_moved Borrowers rows0 s1.moved) s2.moved = subst (λ (rows : List Row). IsSpread Donors floor lent rows s2.moved) s1.new_is s2.spread in
+      ap (map (user_of floor)) (s2.new_is ∙ ap (λ rows. all_moved Donors rows s2.moved) s1.new_is)
+      ∙ batch_is floor rows0 start loans s1.moved s1.spread lent s2.moved sl shared el et
 
 pub shared_bound : (n f g : ℕ) → n ≤ 1024 → f ≤ 2 ^ 32 → n * (f - g) ≤ 2 ^ 42
 shared_bound n f g l m =

@@ -87,25 +87,38 @@ mod tests {
         assert_eq!(rt; rows[3].credits, 1_103_806_595_072);
     }
 
+    fn small_row(seed: u32) -> Row
+        ensures demand { result.demand ≤ 2 ^ 42 }
+        ensures credits { result.credits < 2 ^ 62 - 2 ^ 32 }
+    {
+        row(u64::from(seed % 13), u64::from(seed / 64 % 11))
+    }
+
+    fn small_rows(seed: u32) -> [Row; 4]
+        ensures demands { All (λ row. row.demand ≤ 2 ^ 42) result }
+        ensures credits { All (λ row. row.credits < 2 ^ 62 - 2 ^ 32) result }
+    {
+        [
+            small_row(seed >> 4),
+            small_row(seed >> 8),
+            small_row(seed >> 12),
+            small_row(seed >> 16),
+        ]
+    }
+
     #[test]
     fn as_loan_by_loan(rt: HostRuntime) {
         let mut seed = 1u32;
         for _ in 0..300 {
             seed = seed.wrapping_mul(1_664_525).wrapping_add(1_013_904_223);
-            let seeded = |shift: u32| u64::from(seed.rotate_right(shift) % 13);
-            let mut batch = [
-                row(seeded(7), seeded(9)),
-                row(seeded(11), seeded(13)),
-                row(seeded(15), seeded(17)),
-                row(seeded(19), seeded(21)),
-            ];
-            let mut plain = batch;
-            let floor = seeded(23) % 5;
+            let floor = u64::from(seed >> 28) % 5;
             let share = Share {
-                fair: floor + seeded(25) % 5,
+                fair: floor + u64::from(seed >> 24) % 5,
                 floor,
             };
+            let mut batch = small_rows(seed);
             batch_quantum(&mut batch, share);
+            let mut plain = small_rows(seed);
             plain_quantum(&mut plain, share);
             assert_eq!(rt; batch, plain);
         }

@@ -1,0 +1,12 @@
+pub mod Faults
+pub mod Left
+pub mod Adds
+pub mod Memory
+pub mod Counted
+pub mod Lines
+pub mod LineView
+pub mod Reads
+pub mod Gains
+pub mod Sends
+pub mod Decimals
+pub mod Words
