@@ -1,0 +1,52 @@
+//! What a user asks for, and what it is told.
+use crate::blob::Blob;
+use crate::path::Path;
+
+/// What a name stands for.
+#[derive(Clone, Copy, PartialEq, Eq, Debug)]
+pub enum Kind {
+    /// Bytes that grow at their end.
+    File,
+}
+
+/// What a user asks of its own names.
+#[derive(PartialEq, Eq, Debug, Drop)]
+pub enum Request {
+    /// A new name, whose lease ends `span` after the moment.
+    Make { path: Path, kind: Kind, span: u64 },
+    /// Bytes at the end of a file. The reply is its new length.
+    Append { path: Path, bytes: Blob },
+    /// At most `len` bytes of a file, from `from` on.
+    Read { path: Path, from: u64, len: u32 },
+    /// The length of a file.
+    Length { path: Path },
+}
+
+/// The reply to a request.
+#[derive(PartialEq, Eq, Debug, Drop)]
+pub enum Reply {
+    Done,
+    Number(u64),
+    Bytes(Blob),
+    /// A field of the request is longer than `limit`.
+    TooLong { limit: u64 },
+    /// The name, or the parent of a name that is to be made, isn't there.
+    Absent,
+    /// The name isn't of the kind that the request is for, or the parent isn't a directory.
+    WrongKind,
+    /// The name that is to be made is there.
+    Exists,
+    /// The content would be longer than `limit`.
+    Full { limit: u64 },
+    /// The request needs `need` slices, and the user has `granted`, of which `used` are used.
+    Exhausted { need: u64, used: u64, granted: u64 },
+    NoMemory,
+}
+
+/// What came of an event.
+#[derive(PartialEq, Eq, Debug, Drop)]
+pub enum Outcome {
+    Reply(Reply),
+    /// The slice was taken in, under this number.
+    Granted { slice: u32, number: u64 },
+}

@@ -1,0 +1,3 @@
+pub mod LineKind
+pub mod Block
+pub mod Reading

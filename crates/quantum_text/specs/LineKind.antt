@@ -1,0 +1,42 @@
+-- The kinds of lines in a quantum block.
+use Rattle.std.specs.Prelude.{◌≡◌, ◌≢◌, ℕ, ◌-◌, ◌^◌, List, [], ◌∷◌, length, map, codes}
+use Rattle.demand_book.specs.declared.report.Report.{Report}
+use Rattle.quantum_text.specs.declared.line_kind.LineKind.{LineKind}
+use Rattle.quantum_text.specs.declared.line_kind.LineKind.TheVariants.{Quantum, Demand, Slices, Credits}
+
+-- a block has one line of each kind, in this order
+abbrev pub block_kinds : List LineKind
+block_kinds = Quantum ∷ Demand ∷ Slices ∷ Credits ∷ []
+
+-- the word that the line begins with
+abbrev pub word_of : LineKind → List ℕ
+word_of Quantum = codes "quantum"
+word_of Demand = codes "demand"
+word_of Slices = codes "slices"
+word_of Credits = codes "credits"
+
+-- the greatest number that may stand on it
+abbrev pub limit_of : LineKind → ℕ
+limit_of Quantum = 2 ^ 32 - 1
+limit_of Demand = 2 ^ 42
+limit_of Slices = 2 ^ 64 - 1
+limit_of Credits = 2 ^ 64 - 1
+
+-- how many numbers stand on it, in a block of so many users
+abbrev pub count_of : LineKind → ℕ → ℕ
+count_of Quantum users = 1
+count_of Demand users = users
+count_of Slices users = users
+count_of Credits users = users
+
+-- the numbers that a report has for it
+abbrev pub numbers_of : LineKind → Report → List ℕ
+numbers_of Quantum report = report.quantum ∷ []
+numbers_of Demand report = map (λ row. row.demand) report.rows
+numbers_of Slices report = map (λ row. row.given) report.rows
+numbers_of Credits report = map (λ row. row.credits) report.rows
+
+-- nothing changed but the numbers of this kind
+pub record KeepsOthers (kind : LineKind) (old new : Report) : Type 0 where
+  pub users : length new.rows ≡ length old.rows
+  pub others : (other : LineKind) → other ≢ kind → numbers_of other new ≡ numbers_of other old
