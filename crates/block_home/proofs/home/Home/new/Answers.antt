@@ -1,0 +1,41 @@
+use Rattle.std.proofs.Common.{◌≡◌, ℕ, List, [], map, replicate, ap, sym, subst, ◌∙◌, arith}
+use Rattle.block_home.specs.declared.seat.Seat.{Seat}
+use Rattle.block_home.specs.declared.seat.Seat.TheVariants.{Empty}
+use Rattle.block_home.specs.declared.cell.Cell.{Cell}
+use Rattle.block_home.specs.declared.cell.Cell.TheVariants.{Vacant}
+use Rattle.block_home.specs.Noted.{MovesView}
+use Rattle.block_home.specs.Seats.{blocks_of, purse_of, strays_of, is_open, is_empty, is_vacant}
+use Rattle.block_home.specs.Well.{AreTables}
+use Rattle.block_home.proofs.New.{map-replicate, new_tables, new_blocks, new_purse, new_strays}
+use Rattle.block_home.proofs.home.Home.new.Goals as goal
+
+pub invariant_of-result : goal.invariant_of-result
+invariant_of-result c =
+    let n : ℕ = c.args.slices in
+    record {
+      some = c.requires.some;
+      size = c.requires.limit;
+      slices = omega arith;
+      tables = subst (λ (xs : List Seat). AreTables c.args.size n xs c.in_ok-seats.cells.items) (sym c.in_ok-seats.ensures.seats)
+          (subst (λ (ys : List Cell). AreTables c.args.size n (replicate n Empty) ys) (sym c.in_ok-seats.ensures.cells) (new_tables c.args.size n));
+      open_are = c.in_ok-open_seats.ensures ∙ sym (ap (λ (xs : List Seat). map is_open xs) c.in_ok-seats.ensures.seats ∙ map-replicate is_open n Empty);
+      empty_are = c.in_ok-empty_seats.ensures ∙ sym (ap (λ (xs : List Seat). map is_empty xs) c.in_ok-seats.ensures.seats ∙ map-replicate is_empty n Empty);
+      vacant_are = c.in_ok-vacant_cells.ensures ∙ sym (ap (λ (ys : List Cell). map is_vacant ys) c.in_ok-seats.ensures.cells ∙ map-replicate is_vacant n Vacant);
+      most = ap (λ (m : MovesView). m.most) c.in_ok-moves.ensures;
+    }
+
+pub returns : goal.returns
+returns c =
+    let n : ℕ = c.args.slices in
+    let blocks : blocks_of c.in_ok-seats.cells.items ≡ [] = ap (λ (ys : List Cell). blocks_of ys) c.in_ok-seats.ensures.cells ∙ new_blocks n in
+    let purse : purse_of c.in_ok-seats.seats.items ≡ [] = ap (λ (xs : List Seat). purse_of xs) c.in_ok-seats.ensures.seats ∙ new_purse n in
+    let strays : strays_of c.in_ok-seats.seats.items ≡ 0 = ap (λ (xs : List Seat). strays_of xs) c.in_ok-seats.ensures.seats ∙ new_strays n in
+    λ i. record {
+      user = c.args.user;
+      size = c.args.size;
+      slices = n;
+      blocks = blocks i;
+      purse = purse i;
+      strays = strays i;
+      moves = c.in_ok-moves.ensures i;
+    }
