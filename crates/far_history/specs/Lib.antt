@@ -1,0 +1,10 @@
+pub mod Worlds
+pub mod Answers
+pub mod Entries
+pub mod Purses
+pub mod Layouts
+pub mod Histories
+pub mod Needs
+pub mod Legal
+pub mod Standing
+pub mod Plain

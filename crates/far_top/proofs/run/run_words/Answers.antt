@@ -1,0 +1,29 @@
+use Rattle.std.proofs.Common.{subst}
+use Rattle.plan_run.specs.Writes.{WritesText, EndsAs, WritesPrefix, WritesEnded}
+use Rattle.far_top.specs.declared.command.Command.{Command}
+use Rattle.far_top.specs.Commands.{ending_of}
+use Rattle.far_top.proofs.Words.{words_unique, words_within}
+use Rattle.far_top.proofs.run.run_words.Goals as goal
+
+pub run_command-requires : goal.run_command-requires
+run_command-requires g c = words_within _ c.in-Some.command c.in-Some.ensures.command
+
+pub returns-in-Some-clause-whole : goal.returns-in-Some-clause-whole
+returns-in-Some-clause-whole g c = λ command good whole.
+    let Text : Command → Type 0 = λ other. WritesText g.O.Sink.took c.args.sink.now c.run_command.new.sink (g.S.Source.left c.args.source.now) (ending_of other) in
+    subst Text (words_unique _ c.in-Some.command command c.in-Some.ensures.command good) (c.run_command.ensures.whole whole)
+
+pub returns-in-Some-clause-status : goal.returns-in-Some-clause-status
+returns-in-Some-clause-status g c = λ command good whole.
+    let Ends : Command → Type 0 = λ other. EndsAs (g.S.Source.left c.args.source.now) (ending_of other) c.run_command.result in
+    subst Ends (words_unique _ c.in-Some.command command c.in-Some.ensures.command good) (c.run_command.ensures.status whole)
+
+pub returns-in-Some-clause-ended : goal.returns-in-Some-clause-ended
+returns-in-Some-clause-ended g c = λ command good four.
+    let Ended : Command → Type 0 = λ other. WritesEnded g.O.Sink.took c.args.sink.now c.run_command.new.sink (g.S.Source.left c.args.source.now) (g.S.Source.left c.run_command.new.source) (ending_of other) in
+    subst Ended (words_unique _ c.in-Some.command command c.in-Some.ensures.command good) (c.run_command.ensures.ended four)
+
+pub returns-in-Some-clause-part : goal.returns-in-Some-clause-part
+returns-in-Some-clause-part g c = λ command good.
+    let Part : Command → Type 0 = λ other. WritesPrefix g.O.Sink.took c.args.sink.now c.run_command.new.sink (g.S.Source.left c.args.source.now) (ending_of other) in
+    subst Part (words_unique _ c.in-Some.command command c.in-Some.ensures.command good) c.run_command.ensures.part

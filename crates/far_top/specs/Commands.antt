@@ -1,0 +1,34 @@
+-- What the words after the program's name ask for.
+use Rattle.std.specs.Prelude.{◌≡◌, ℕ, List, [], ◌∷◌, codes, decimal}
+use Rattle.karma_rule.specs.declared.shape.Shape.{Shape}
+use Rattle.karma_rule.specs.Limits.{IsPlan}
+use Rattle.plan_run.specs.Ending.{Ending}
+use Rattle.plan_run.specs.PlanText.{planned}
+use Rattle.far_top.specs.declared.command.Command.{Command}
+use Rattle.far_top.specs.declared.command.Command.TheVariants.{Plan}
+
+-- the numbers of a plan, as they are written
+abbrev pub shape_words : Shape → List (List ℕ)
+shape_words shape = decimal shape.users ∷ decimal shape.share.fair ∷ decimal shape.share.floor ∷ decimal shape.credits ∷ []
+
+-- these words are the numbers of a plan, each within its limits
+pub record IsShapeWords (words : List (List ℕ)) (shape : Shape) : Type 0 where
+  pub spelled : words ≡ shape_words shape
+  pub within : IsPlan shape
+  pub unsliced : shape.slice ≡ 0
+
+-- these words ask for this
+abbrev pub IsWords : List (List ℕ) → Command → Type 0
+IsWords words (Plan shape) = (others : List (List ℕ)) × (words ≡ codes "plan" ∷ others) × IsShapeWords others shape
+
+-- these words ask for nothing
+abbrev pub IsNoWords : List (List ℕ) → Type 0
+IsNoWords words = (command : Command) → IsWords words command → ⊥
+
+-- its numbers are within the limits
+abbrev pub IsWithinLimits : Command → Type 0
+IsWithinLimits (Plan shape) = IsPlan shape
+
+-- what comes of it over the lines of an input
+abbrev pub ending_of : Command → List (List ℕ) → Ending
+ending_of (Plan shape) = planned shape

@@ -1,0 +1,110 @@
+ghost use Rattle.std.specs.Prelude.{◌≡◌, ◌⊎◌, OnErr, OnOk, [], ◌∷◌, Contains, map, string_bytes};
+ghost use Rattle.far_io.specs.Faults.{Rose, Follows};
+ghost use Rattle.far_io.specs.Left.{IsAtEnd};
+ghost use Rattle.far_io.specs.Adds.{Adds, AddsPrefix};
+ghost use Rattle.plan_run.specs.Status.{IsWhole};
+ghost use Rattle.plan_run.specs.Writes.{WritesText, EndsAs, WritesPrefix, WritesEnded};
+ghost use Rattle.far_top.specs.declared.command.Command.{Command};
+ghost use Rattle.far_top.specs.Commands.{IsWords, IsNoWords, IsWithinLimits, ending_of};
+ghost use Rattle.far_top.specs.Refusals.{bad_words};
+
+use crate::command::{Command, read_words};
+use far_io::{Sink, Source, WriteFault, put_all};
+use plan_run::{WRITE_FAULT, run_plan};
+use std::alloc::Global;
+
+/// The status where the words are outside the grammar.
+pub const BAD_WORDS: u8 = 2;
+
+// Does what was asked for.
+fn run_command<S: Source, O: Sink>(
+    alloc: Global,
+    command: Command,
+    source: &mut S,
+    sink: &mut O,
+) -> u8
+    requires { IsWithinLimits command }
+    ensures listed { Contains (0 ∷ 3 ∷ 4 ∷ 5 ∷ 6 ∷ 7 ∷ []) result }
+    ensures whole { IsWhole result → WritesText O.took sink.old sink.new (S.left source.old) (ending_of command) }
+    ensures status { IsWhole result → EndsAs (S.left source.old) (ending_of command) result }
+    ensures ended { result ≡ 4 → WritesEnded O.took sink.old sink.new (S.left source.old) (S.left source.new) (ending_of command) }
+    ensures part { WritesPrefix O.took sink.old sink.new (S.left source.old) (ending_of command) }
+    ensures at_end { result ≡ 0 → IsAtEnd (S.left source.new) }
+    ensures read_fault { result ≡ 4 → Rose (S.faults source.old) (S.faults source.new) }
+    ensures write_fault { result ≡ 5 → Rose (O.faults sink.old) (O.faults sink.new) }
+    ensures unread { result ≡ 6 → source.new ≡ source.old }
+    ensures unwritten { result ≡ 6 → sink.new ≡ sink.old }
+    ensures source { Follows (S.faults source.old) (S.faults source.new) }
+    ensures sink { Follows (O.faults sink.old) (O.faults sink.new) }
+{
+    match command {
+        Command::Plan(shape) => run_plan(alloc, shape, source, sink),
+    }
+}
+
+// Writes the line for bad words, and answers the status.
+#[tactic(auto, unfolding(crate::specs::Refusals::bad_words))]
+fn refuse<O: Sink>(sink: &mut O) -> u8
+    ensures listed { (result ≡ 2) ⊎ (result ≡ 5) }
+    ensures whole { result ≡ 2 → Adds O.took sink.old sink.new bad_words }
+    ensures part { AddsPrefix O.took sink.old sink.new bad_words }
+    ensures fault { result ≡ 5 → Rose (O.faults sink.old) (O.faults sink.new) }
+    ensures faults { Follows (O.faults sink.old) (O.faults sink.new) }
+{
+    match put_all(sink, b"bad words\n") {
+        Ok(()) => BAD_WORDS,
+        Err(WriteFault) => WRITE_FAULT,
+    }
+}
+
+/// Does what the words after the program's name ask for, from the source to the sink, and answers a status:
+///
+/// | Status | Meaning |
+/// | --- | --- |
+/// | 0 | the input was read to its end |
+/// | 2 | the words are outside the grammar; the last line is `bad words` |
+/// | 3 | a line is outside the grammar; the last line is `bad line` and its number |
+/// | 4 | the source failed |
+/// | 5 | the sink failed |
+/// | 6 | want of memory, before a byte was read or written |
+/// | 7 | a line stands after the last quantum; the last line is `spent` |
+///
+/// `docs/PROMISES.md` states the theorem that the clauses carry.
+pub fn run_words<S: Source, O: Sink>(
+    alloc: Global,
+    words: &[String],
+    source: &mut S,
+    sink: &mut O,
+) -> u8
+    // Words outside the grammar get `bad words`, and no byte is read.
+    ensures bad_words { result ≡ 2 → IsNoWords (map string_bytes words.now) }
+    ensures refused { IsNoWords (map string_bytes words.now) → (result ≡ 2) ⊎ (result ≡ 5) }
+    ensures refusal { result ≡ 2 → Adds O.took sink.old sink.new bad_words }
+    ensures refusal_part { IsNoWords (map string_bytes words.now) → AddsPrefix O.took sink.old sink.new bad_words }
+    ensures refusal_unread { IsNoWords (map string_bytes words.now) → source.new ≡ source.old }
+
+    // For good words, what is written and the status are functions of the input, where the source tells it, but for
+    // faults and memory.
+    ensures listed { (command : Command) → IsWords (map string_bytes words.now) command → Contains (0 ∷ 3 ∷ 4 ∷ 5 ∷ 6 ∷ 7 ∷ []) result }
+    ensures whole { (command : Command) → IsWords (map string_bytes words.now) command → IsWhole result
+        → WritesText O.took sink.old sink.new (S.left source.old) (ending_of command) }
+    ensures status { (command : Command) → IsWords (map string_bytes words.now) command → IsWhole result
+        → EndsAs (S.left source.old) (ending_of command) result }
+    ensures ended { (command : Command) → IsWords (map string_bytes words.now) command → result ≡ 4
+        → WritesEnded O.took sink.old sink.new (S.left source.old) (S.left source.new) (ending_of command) }
+    ensures part { (command : Command) → IsWords (map string_bytes words.now) command
+        → WritesPrefix O.took sink.old sink.new (S.left source.old) (ending_of command) }
+    ensures at_end { result ≡ 0 → IsAtEnd (S.left source.new) }
+
+    ensures read_fault { result ≡ 4 → Rose (S.faults source.old) (S.faults source.new) }
+    ensures write_fault { result ≡ 5 → Rose (O.faults sink.old) (O.faults sink.new) }
+    ensures unread { result ≡ 6 → source.new ≡ source.old }
+    ensures unwritten { result ≡ 6 → sink.new ≡ sink.old }
+    ensures source { Follows (S.faults source.old) (S.faults source.new) }
+    ensures sink { Follows (O.faults sink.old) (O.faults sink.new) }
+{
+    match read_words(words) {
+        Some(command) => run_command(alloc, command, source, sink),
+        None => refuse(sink),
+    }
+}

@@ -1,0 +1,4 @@
+pub mod RowsOfWords
+pub mod LineEnds
+pub mod SoFar
+pub mod Statuses

@@ -1,0 +1,6 @@
+pub mod Ending
+pub mod LastLines
+pub mod PlanText
+pub mod Writes
+pub mod Steps
+pub mod Status
