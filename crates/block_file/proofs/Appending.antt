@@ -1,0 +1,41 @@
+-- How the steps of an append fit together.
+use Rattle.std.proofs.Common.{◌≡◌, ◌≢◌, ℕ, ◌+◌, ◌-◌, ◌*◌, ◌<◌, List, ◌++◌, length, take, drop, get_or, min, sym, ap, ◌∙◌, inl, inr, arith}
+use Rattle.std.specs.Prelude.{All}
+use Rattle.std.specs.Int.{div_ceil}
+use Rattle.std.proofs.lemmas.Bool.{cases_lt}
+use Rattle.std.proofs.lemmas.List.{get_or_append_left, get_or-append-add, length-append, take_all, append_assoc, take-append-drop, length-drop}
+use Rattle.block_file.proofs.Pieces.{ceil_rest}
+
+-- a test passed by every block is passed by those at the front, and by those at the back
+pub All-front : (q : ℕ) (xs ys zs : List ℕ) → zs ≡ xs ++ ys → All (λ b. q ≢ b) zs → All (λ b. q ≢ b) xs
+All-front q xs ys zs parts apart = λ k d inside same.
+    apart k d (omega (arith, ap length parts, length-append xs ys))
+    (same ∙ sym (ap (λ l. get_or l k d) parts ∙ get_or_append_left xs ys d k inside))
+
+pub All-back : (q : ℕ) (xs ys zs : List ℕ) → zs ≡ xs ++ ys → All (λ b. q ≢ b) zs → All (λ b. q ≢ b) ys
+All-back q xs ys zs parts apart = λ k d inside same.
+    apart (length xs + k) d (omega (arith, ap length parts, length-append xs ys))
+    (same ∙ sym (ap (λ l. get_or l (length xs + k) d) parts ∙ get_or-append-add xs ys k d))
+
+-- the bytes that the last block has no room for need just the new blocks
+pub left_need : (count used more filled size : ℕ) → 0 < size → count ≡ div_ceil used size → filled ≡ min more (count * size - used) → div_ceil (more - filled) size ≡ div_ceil (used + more) size - div_ceil used size
+left_need count used more filled size pos count_is filled_is =
+    let left : more - filled ≡ more - (count * size - used) = omega arith in
+    ap (λ r. div_ceil r size) left ∙ ceil_rest count used more size pos count_is
+
+-- what is left after a front
+pub take_rest_of : (filled : ℕ) (bytes : List ℕ) → take (length bytes - filled) (drop filled bytes) ≡ drop filled bytes
+take_rest_of filled bytes = take_all (length bytes - filled) (drop filled bytes) (omega (arith, length-drop filled bytes))
+
+pub joined : (old bytes : List ℕ) (filled : ℕ) → (old ++ take filled bytes) ++ take (length bytes - filled) (drop filled bytes) ≡ old ++ bytes
+joined old bytes filled =
+    append_assoc old (take filled bytes) _
+    ∙ ap (λ bs. old ++ bs) (ap (λ rest. take filled bytes ++ rest) (take_rest_of filled bytes) ∙ take-append-drop filled bytes)
+
+-- to take as many as are there, and no more than asked for
+pub take_count : (count most : ℕ) (xs : List ℕ) → count ≡ min (length xs) most → take count xs ≡ take most xs
+take_count count most xs count_is =
+    elim (cases_lt (length xs) most) [
+      | inl fewer ↦ take_all count xs (omega arith) ∙ sym (take_all most xs (omega arith))
+      | inr enough ↦ let same : count ≡ most = omega arith in ap (λ n. take n xs) same
+    ]

@@ -1,0 +1,6 @@
+mod Appending
+mod Finds
+mod Growing
+mod Holding
+mod Pieces
+mod Reading
