@@ -1,11 +1,12 @@
 -- Words ask for one thing at most.
-use Rattle.std.proofs.Common.{◌≡◌, ℕ, ◌<◌, ◌≤◌, ◌^◌, List, [], drop, get_or, sym, ◌∙◌, ap, subst, arith, decimal}
+use Rattle.std.proofs.Common.{◌≡◌, ℕ, ◌<◌, ◌≤◌, ◌^◌, List, [], drop, get_or, sym, ◌∙◌, ap, subst, arith, decimal, length, codes, ◌∷◌, eqb}
+use Rattle.std.proofs.lemmas.Bool.{true≢false}
 use Rattle.far_io.specs.Decimals.{value_of}
 use Rattle.far_io.proofs.Decimals.{value_of-decimal}
 use Rattle.karma_rule.specs.declared.shape.Shape.{Shape}
 use Rattle.karma_rule.specs.Limits.{IsPlan, IsWithin, IsFirstBroken, Limit, Users, Fair, Floor, Credits, Slice, Products, place_of}
 use Rattle.far_top.specs.declared.command.Command.{Command}
-use Rattle.far_top.specs.declared.command.Command.TheVariants.{Plan}
+use Rattle.far_top.specs.declared.command.Command.TheVariants.{Plan, Audit}
 use Rattle.far_top.specs.Commands.{shape_words, IsShapeWords, IsWords, IsWithinLimits}
 
 pub number_is : (word : List ℕ) (value n : ℕ) → value ≡ value_of word → word ≡ decimal n → n < 2 ^ 64 → value ≡ n
@@ -24,10 +25,19 @@ shape_unique words a b of_a of_b =
     let slice : a.slice ≡ b.slice = of_a.unsliced ∙ sym of_b.unsliced in
     λ i. record { users = users i; share = record { fair = fair i; floor = floor i }; credits = credits i; slice = slice i }
 
-pub words_unique : (words : List (List ℕ)) (a b : Command) → IsWords words a → IsWords words b → a ≡ b
-words_unique words (Plan a) (Plan b) of_a of_b =
+same_others : (name : List ℕ) (words : List (List ℕ)) (a b : Shape) (of_a : (others : List (List ℕ)) × (words ≡ name ∷ others) × IsShapeWords others a) (of_b : (others : List (List ℕ)) × (words ≡ name ∷ others) × IsShapeWords others b) → a ≡ b
+same_others name words a b of_a of_b =
     let others : of_a.0 ≡ of_b.0 = ap (drop 1) (sym of_a.1 ∙ of_b.1) in
-    ap Plan (shape_unique of_b.0 a b (subst (λ ws. IsShapeWords ws a) others of_a.2) of_b.2)
+    shape_unique of_b.0 a b (subst (λ ws. IsShapeWords ws a) others of_a.2) of_b.2
+
+other_name : (words plan audit : List (List ℕ)) → words ≡ codes "plan" ∷ plan → words ≡ codes "audit" ∷ audit → ⊥
+other_name words plan audit of_plan of_audit = true≢false (ap (λ ws. eqb (length (get_or ws 0 [])) 4) (sym of_plan ∙ of_audit))
+
+pub words_unique : (words : List (List ℕ)) (a b : Command) → IsWords words a → IsWords words b → a ≡ b
+words_unique words (Plan a) (Plan b) of_a of_b = ap Plan (same_others (codes "plan") words a b of_a of_b)
+words_unique words (Plan a) (Audit b) of_a of_b = absurd (other_name words of_a.0 of_b.0 of_a.1 of_b.1)
+words_unique words (Audit a) (Plan b) of_a of_b = absurd (other_name words of_b.0 of_a.0 of_b.1 of_a.1)
+words_unique words (Audit a) (Audit b) of_a of_b = ap Audit (same_others (codes "audit") words a b of_a of_b)
 
 within_plan : (shape : Shape) → IsPlan shape → (limit : Limit) → place_of limit ≤ 4 → IsWithin limit shape
 within_plan shape plan Users place = plan.users
@@ -42,3 +52,4 @@ plan_unbroken shape place plan of_plan first = first.broken (within_plan shape p
 
 pub words_within : (words : List (List ℕ)) (command : Command) → IsWords words command → IsWithinLimits command
 words_within words (Plan shape) good = good.2.within
+words_within words (Audit shape) good = good.2.within

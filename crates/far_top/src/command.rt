@@ -9,6 +9,8 @@ use karma_rule::Shape;
 pub enum Command {
     /// A block for each line of demands.
     Plan(Shape),
+    /// A judgement of a log of such blocks.
+    Audit(Shape),
 }
 
 ghost use Rattle.far_top.specs.Commands.{IsShapeWords, IsWords, IsNoWords};
@@ -41,6 +43,7 @@ pub fn read_words(words: &[String]) -> Option<Command>
     let shape = read_shape(others)?;
     match name.as_bytes() {
         b"plan" => Some(Command::Plan(shape)),
+        b"audit" => Some(Command::Audit(shape)),
         _ => None,
     }
 }

@@ -3,14 +3,14 @@ ghost use Rattle.far_io.specs.Faults.{Rose, Follows};
 ghost use Rattle.far_io.specs.Left.{IsAtEnd};
 ghost use Rattle.far_io.specs.Adds.{Adds, AddsPrefix};
 ghost use Rattle.plan_run.specs.Status.{IsWhole};
-ghost use Rattle.plan_run.specs.Writes.{WritesText, EndsAs, WritesPrefix, WritesEnded};
+ghost use Rattle.plan_run.specs.Writes.{WritesText, EndsAs, WritesPrefix};
 ghost use Rattle.far_top.specs.declared.command.Command.{Command};
-ghost use Rattle.far_top.specs.Commands.{IsWords, IsNoWords, IsWithinLimits, ending_of};
+ghost use Rattle.far_top.specs.Commands.{IsWords, IsNoWords, IsWithinLimits, WritesAtFault, ending_of, statuses_of};
 ghost use Rattle.far_top.specs.Refusals.{bad_words};
 
 use crate::command::{Command, read_words};
 use far_io::{Sink, Source, WriteFault, put_all};
-use plan_run::{WRITE_FAULT, run_plan};
+use plan_run::{WRITE_FAULT, run_audit, run_plan};
 use std::alloc::Global;
 
 /// The status where the words are outside the grammar.
@@ -24,10 +24,10 @@ fn run_command<S: Source, O: Sink>(
     sink: &mut O,
 ) -> u8
     requires { IsWithinLimits command }
-    ensures listed { Contains (0 ∷ 3 ∷ 4 ∷ 5 ∷ 6 ∷ 7 ∷ []) result }
+    ensures listed { Contains (statuses_of command) result }
     ensures whole { IsWhole result → WritesText O.took sink.old sink.new (S.left source.old) (ending_of command) }
     ensures status { IsWhole result → EndsAs (S.left source.old) (ending_of command) result }
-    ensures ended { result ≡ 4 → WritesEnded O.took sink.old sink.new (S.left source.old) (S.left source.new) (ending_of command) }
+    ensures ended { result ≡ 4 → WritesAtFault O.took sink.old sink.new (S.left source.old) (S.left source.new) command }
     ensures part { WritesPrefix O.took sink.old sink.new (S.left source.old) (ending_of command) }
     ensures at_end { result ≡ 0 → IsAtEnd (S.left source.new) }
     ensures read_fault { result ≡ 4 → Rose (S.faults source.old) (S.faults source.new) }
@@ -39,6 +39,7 @@ fn run_command<S: Source, O: Sink>(
 {
     match command {
         Command::Plan(shape) => run_plan(alloc, shape, source, sink),
+        Command::Audit(shape) => run_audit(alloc, shape, source, sink),
     }
 }
 
@@ -68,6 +69,7 @@ fn refuse<O: Sink>(sink: &mut O) -> u8
 /// | 5 | the sink failed |
 /// | 6 | want of memory, before a byte was read or written |
 /// | 7 | a line stands after the last quantum; the last line is `spent` |
+/// | 9 | a line of the log isn't the one that the rule gives; both are written |
 ///
 /// `docs/PROMISES.md` states the theorem that the clauses carry.
 pub fn run_words<S: Source, O: Sink>(
@@ -85,13 +87,13 @@ pub fn run_words<S: Source, O: Sink>(
 
     // For good words, what is written and the status are functions of the input, where the source tells it, but for
     // faults and memory.
-    ensures listed { (command : Command) → IsWords (map string_bytes words.now) command → Contains (0 ∷ 3 ∷ 4 ∷ 5 ∷ 6 ∷ 7 ∷ []) result }
+    ensures listed { (command : Command) → IsWords (map string_bytes words.now) command → Contains (statuses_of command) result }
     ensures whole { (command : Command) → IsWords (map string_bytes words.now) command → IsWhole result
         → WritesText O.took sink.old sink.new (S.left source.old) (ending_of command) }
     ensures status { (command : Command) → IsWords (map string_bytes words.now) command → IsWhole result
         → EndsAs (S.left source.old) (ending_of command) result }
     ensures ended { (command : Command) → IsWords (map string_bytes words.now) command → result ≡ 4
-        → WritesEnded O.took sink.old sink.new (S.left source.old) (S.left source.new) (ending_of command) }
+        → WritesAtFault O.took sink.old sink.new (S.left source.old) (S.left source.new) command }
     ensures part { (command : Command) → IsWords (map string_bytes words.now) command
         → WritesPrefix O.took sink.old sink.new (S.left source.old) (ending_of command) }
     ensures at_end { result ≡ 0 → IsAtEnd (S.left source.new) }

@@ -171,3 +171,67 @@ fn each_write_that_fails(rt: HostRuntime) -> Result<(), Fail> {
     }
     Ok(())
 }
+
+#[test]
+fn logs_are_judged(rt: HostRuntime) -> Result<(), Fail> {
+    let cases: [(&[u8], u8, &[u8]); 12] = [
+        (
+            b"quantum 0\ndemand 3 2 1\nslices 3 2 1\ncredits 4 5 6\n",
+            0,
+            b"ok 1\n",
+        ),
+        (
+            b"quantum 0\ndemand 3 2 1\nslices 3 2 1\ncredits 4 5 6",
+            0,
+            b"ok 1\n",
+        ),
+        (
+            b"quantum 0\ndemand 3 2 1\nslices 3 2 1\ncredits 4 5 6\nquantum 1\ndemand 3 0 0\nslices 3 0 0\ncredits 3 7 8\n",
+            0,
+            b"ok 2\n",
+        ),
+        (b"", 0, b"ok 0\n"),
+        (
+            b"quantum 0\ndemand 3 2 1\nslices 3 2 1\ncredits 4 5 7\n",
+            9,
+            b"not karma line 4\nwant credits 4 5 6\nread credits 4 5 7\n",
+        ),
+        (
+            b"quantum 1\ndemand 3 2 1\nslices 3 2 1\ncredits 4 5 6\n",
+            9,
+            b"not karma line 1\nwant quantum 0\nread quantum 1\n",
+        ),
+        (
+            b"quantum 0\ndemand 3 2 1\nslices 3 1 2\ncredits x\n",
+            9,
+            b"not karma line 3\nwant slices 3 2 1\nread slices 3 1 2\n",
+        ),
+        (
+            b"quantum 0\ndemand 3 2\nslices 3 2 1\ncredits 4 5 6\n",
+            3,
+            b"bad line 2\n",
+        ),
+        (b"quantum 0\ndemand 3 2 1\n", 3, b"bad line 3\n"),
+        (b"quantum 0\ndemand 4398046511105 2 1\n", 3, b"bad line 2\n"),
+        (b"\n", 3, b"bad line 1\n"),
+        (
+            b"quantum 0\ndemand 3 2 1\nslices 3 2 1\ncredits 4 5 6\nquantum 1\ndemand 3 0 0\nslices 3 0 0\ncredits 4 7 8\n",
+            9,
+            b"not karma line 8\nwant credits 3 7 8\nread credits 4 7 8\n",
+        ),
+    ];
+    for (log, status, want) in cases {
+        for piece in PIECES {
+            let (found, _, written) = run(&rt, "audit 3 2 1 5", log, piece, u64::MAX, u64::MAX)?;
+            assert_eq!(rt; found, status);
+            assert_eq!(rt; written.as_slice(), want);
+        }
+        let (found, _, written) = run(&rt, "audit 3 2 1 5", log, 7, 0, u64::MAX)?;
+        assert_eq!(rt; found, 4);
+        assert_eq!(rt; written.as_slice(), b"".as_slice());
+        let (found, _, written) = run(&rt, "audit 3 2 1 5", log, 7, u64::MAX, 0)?;
+        assert_eq!(rt; found, 5);
+        assert_eq!(rt; written.as_slice(), b"".as_slice());
+    }
+    Ok(())
+}

@@ -1,5 +1,6 @@
 -- What a loop over lines keeps, for any state that it goes through.
-use Rattle.std.proofs.Common.{◌≡◌, ℕ, ◌<◌, Bool, false, List, [], ◌∷◌, ◌++◌, length, Option, Some, refl, sym, ◌∙◌, ap, inl, inr, append_assoc, append-nil}
+use Rattle.std.proofs.Common.{◌≡◌, ℕ, ◌<◌, Bool, false, List, [], ◌∷◌, ◌++◌, length, Option, Some, refl, sym, ◌∙◌, ap, inl, inr, append_assoc, append-nil, Result, Ok, Err, IfOk, OnOk, OnErr, subst, None}
+use Rattle.far_io.specs.declared.put.WriteFault.{WriteFault}
 use Rattle.far_io.specs.Adds.{Adds, AddsPrefix}
 use Rattle.far_io.specs.Lines.{line_of, after_line, lines_of, ended_lines_of}
 use Rattle.far_io.specs.Left.{in_front}
@@ -9,10 +10,10 @@ use Rattle.far_io.proofs.Left.{in_front_told}
 use Rattle.far_io.proofs.LineLaws.{ended_first, ended_none, lines_of_none}
 use Rattle.far_io.proofs.Adds.{adds_nothing, adds_more, adds_equal}
 use Rattle.plan_run.specs.declared.run_end.RunEnd.{RunEnd}
-use Rattle.plan_run.specs.declared.run_end.RunEnd.TheVariants.{Done}
+use Rattle.plan_run.specs.declared.run_end.RunEnd.TheVariants.{Done, ReadFault}
 use Rattle.plan_run.specs.Ending.{Ending, after_text}
 use Rattle.plan_run.specs.Writes.{Writes, WritesPrefix, WritesEnded}
-use Rattle.plan_run.specs.Steps.{GoesOn}
+use Rattle.plan_run.specs.Steps.{GoesOn, Steps}
 
 -- what was sent stands for the lines before, and what is left stands for the others; while no last line without a line end was read, this holds of the ended lines too
 pub record SoFar {R O : Type 0} (ending : R → List (List ℕ) → Ending) (took : O → List ℕ → Type 0) (before now : O) (input left : Option (List ℕ)) (first state : R) (ended : Bool) : Type 0 where
@@ -146,3 +147,51 @@ module _ {R O : Type 0} (ending : R → List (List ℕ) → Ending) (one : R →
                   ∙ ap (after_text so_far.sent) (step (ended_lines_of more)) ∙ after_both so_far.sent goes.sent (ending next (ended_lines_of more)),
             );
       }
+
+  -- the input ends here, and this is written for that
+  pub closes_over : (later : O) (last : Ending) → SoFar ending took before now input left first state ended → ((others : List ℕ) → left ≡ Some others → others ≡ []) → ending state [] ≡ last
+      → Adds took now later last.text → Writes took before later input (ending first) last.end
+  closes_over later last so_far empty is_last adds =
+      let whole : (bytes : List ℕ) → input ≡ Some bytes → ending first (lines_of bytes) ≡ after_text so_far.sent last = λ bytes told. let more = so_far.rest bytes told in
+      more.2 ∙ ap (λ t. after_text so_far.sent (ending state (lines_of t))) (empty more.0 more.1) ∙ ap (λ ls. after_text so_far.sent (ending state ls)) lines_of_none ∙ ap (after_text so_far.sent) is_last in
+      record {
+        text = λ bytes told. adds_equal took before later (so_far.sent ++ last.text) (ending first (lines_of bytes)).text (sym (ap (λ (e : Ending). e.text) (whole bytes told)))
+            (adds_more took before now later so_far.sent last.text so_far.adds adds);
+        ends = λ bytes told. ap (λ (e : Ending). e.end) (whole bytes told);
+      }
+
+  pub breaks_over : (later : O) (last : Ending) → SoFar ending took before now input left first state ended → ((others : List ℕ) → left ≡ Some others → others ≡ []) → ending state [] ≡ last
+      → AddsPrefix took now later last.text → WritesPrefix took before later input (ending first)
+  breaks_over later last so_far empty is_last fault = λ bytes told.
+      let more = so_far.rest bytes told in
+      let whole : ending first (lines_of bytes) ≡ after_text so_far.sent last =
+      more.2 ∙ ap (λ t. after_text so_far.sent (ending state (lines_of t))) (empty more.0 more.1) ∙ ap (λ ls. after_text so_far.sent (ending state ls)) lines_of_none ∙ ap (after_text so_far.sent) is_last in
+      record {
+        sent = so_far.sent ++ fault.sent;
+        unsent = fault.unsent;
+        whole = append_assoc so_far.sent fault.sent fault.unsent ∙ ap (λ t. so_far.sent ++ t) fault.whole ∙ sym (ap (λ (e : Ending). e.text) whole);
+        adds = adds_more took before now later so_far.sent fault.sent so_far.adds fault.adds;
+      }
+
+pub steps_same : {R O : Type 0} (took : O → List ℕ → Type 0) (before now : O) (ending other : (R → Ending) → Ending) (next : R) (result : Result (Option RunEnd) WriteFault)
+    → ((others : R → Ending) → ending others ≡ other others) → Steps took before now other next result → Steps took before now ending next result
+steps_same took before now ending other next (Ok None) same step = record { sent = step.sent; adds = step.adds; step = λ others. same others ∙ step.step others }
+steps_same took before now ending other next (Ok (Some end)) same step = record { last = step.last; is_end = step.is_end; adds = step.adds; step = λ others. same others ∙ step.step others }
+steps_same took before now ending other next (Err fault) same step = record {
+  text = step.text;
+  adds = step.adds;
+  step = λ others. let more = step.step others in (more.0, ap (λ (e : Ending). e.text) (same others) ∙ more.1);
+}
+
+-- a call that writes the last text, or a part of it
+pub closing_whole : {O E : Type 0} (took : O → List ℕ → Type 0) (before now later : O) (input : Option (List ℕ)) (ending : List (List ℕ) → Ending) (last : Ending) (result : Result RunEnd E)
+    → IfOk result (λ end. last.end ≡ end) → OnOk result (Adds took now later last.text) → (Adds took now later last.text → Writes took before later input ending last.end)
+    → IfOk result (λ end. (end ≡ ReadFault → ⊥) → Writes took before later input ending end)
+closing_whole took before now later input ending last (Ok end) same adds close = λ other. subst (λ e. Writes took before later input ending e) same (close adds)
+closing_whole took before now later input ending last (Err fault) same adds close = tt
+
+pub closing_part : {O E : Type 0} (took : O → List ℕ → Type 0) (before now later : O) (input : Option (List ℕ)) (ending : List (List ℕ) → Ending) (last : Ending) (result : Result RunEnd E)
+    → OnOk result (Adds took now later last.text) → OnErr result (AddsPrefix took now later last.text) → (Adds took now later last.text → Writes took before later input ending last.end)
+    → (AddsPrefix took now later last.text → WritesPrefix took before later input ending) → WritesPrefix took before later input ending
+closing_part took before now later input ending last (Ok end) adds part close break = whole_part took before later input ending last.end (close adds)
+closing_part took before now later input ending last (Err fault) adds part close break = break part

@@ -24,3 +24,10 @@ is_fault BadLine four = absurd (omega arith)
 is_fault ReadFault four = refl
 is_fault Spent four = absurd (omega arith)
 is_fault NotKarma four = absurd (omega arith)
+
+pub listed_audit : (end : RunEnd) → Contains (0 ∷ 3 ∷ 4 ∷ 5 ∷ 6 ∷ 7 ∷ 9 ∷ []) (status_of end)
+listed_audit Done = (0, lit< tt, refl)
+listed_audit BadLine = (1, lit< tt, refl)
+listed_audit ReadFault = (2, lit< tt, refl)
+listed_audit Spent = (5, lit< tt, refl)
+listed_audit NotKarma = (6, lit< tt, refl)

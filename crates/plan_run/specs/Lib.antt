@@ -4,3 +4,5 @@ pub mod PlanText
 pub mod Writes
 pub mod Steps
 pub mod Status
+pub mod AuditText
+pub mod KarmaLog

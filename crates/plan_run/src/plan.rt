@@ -17,7 +17,7 @@ use quantum_text::write_report;
 use std::alloc::Global;
 
 /// The most bytes of a line of input.
-const MOST_LINE: usize = 262_144;
+pub(crate) const MOST_LINE: usize = 262_144;
 
 // Reports what each user demands by the words of a line, and says whether the line is good: whether it has one word
 // for each user, and each is a demand.

@@ -1,7 +1,8 @@
 use Rattle.std.proofs.Common.{subst}
-use Rattle.plan_run.specs.Writes.{WritesText, EndsAs, WritesPrefix, WritesEnded}
+use Rattle.plan_run.specs.Writes.{WritesText, EndsAs, WritesPrefix}
+use Rattle.std.specs.List.{Contains}
 use Rattle.far_top.specs.declared.command.Command.{Command}
-use Rattle.far_top.specs.Commands.{ending_of}
+use Rattle.far_top.specs.Commands.{ending_of, statuses_of, WritesAtFault}
 use Rattle.far_top.proofs.Words.{words_unique, words_within}
 use Rattle.far_top.proofs.run.run_words.Goals as goal
 
@@ -20,8 +21,13 @@ returns-in-Some-clause-status g c = λ command good whole.
 
 pub returns-in-Some-clause-ended : goal.returns-in-Some-clause-ended
 returns-in-Some-clause-ended g c = λ command good four.
-    let Ended : Command → Type 0 = λ other. WritesEnded g.O.Sink.took c.args.sink.now c.run_command.new.sink (g.S.Source.left c.args.source.now) (g.S.Source.left c.run_command.new.source) (ending_of other) in
-    subst Ended (words_unique _ c.in-Some.command command c.in-Some.ensures.command good) (c.run_command.ensures.ended four)
+    let AtFault : Command → Type 0 = λ other. WritesAtFault g.O.Sink.took c.args.sink.now c.run_command.new.sink (g.S.Source.left c.args.source.now) (g.S.Source.left c.run_command.new.source) other in
+    subst AtFault (words_unique _ c.in-Some.command command c.in-Some.ensures.command good) (c.run_command.ensures.ended four)
+
+pub returns-in-Some-clause-listed : goal.returns-in-Some-clause-listed
+returns-in-Some-clause-listed g c = λ command good.
+    let Listed : Command → Type 0 = λ other. Contains (statuses_of other) c.run_command.result in
+    subst Listed (words_unique _ c.in-Some.command command c.in-Some.ensures.command good) c.run_command.ensures.listed
 
 pub returns-in-Some-clause-part : goal.returns-in-Some-clause-part
 returns-in-Some-clause-part g c = λ command good.

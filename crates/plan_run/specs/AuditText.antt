@@ -1,0 +1,138 @@
+-- What `audit` writes for the lines of its input, and how it ends.
+use Rattle.std.specs.Prelude.{◌≡◌, ℕ, ◌+◌, ◌*◌, ◌^◌, ◌<◌, nat_eq, nat_le, Bool, true, false, ◌&&◌, if◌then◌else◌, List, [], ◌∷◌, ◌++◌, length, map, drop, Some, None, codes, decimal}
+use Rattle.std.specs.declared.option.Option.{Option}
+use Rattle.std.specs.List.{list_all}
+use Rattle.std.specs.Str.{bytes_eq}
+use Rattle.far_io.specs.Decimals.{value_of}
+use Rattle.far_io.specs.Words.{words_of}
+use Rattle.karma_rule.specs.declared.row.Row.{Row}
+use Rattle.karma_rule.specs.declared.shape.Shape.{Shape}
+use Rattle.demand_book.specs.Book.{BookView, opening_book, demanding, ticked}
+use Rattle.quantum_text.specs.declared.line_kind.LineKind.{LineKind}
+use Rattle.quantum_text.specs.declared.line_kind.LineKind.TheVariants.{Quantum, Demand, Slices, Credits}
+use Rattle.quantum_text.specs.LineKind.{limit_of, count_of, numbers_of}
+use Rattle.quantum_text.specs.Block.{line_text, ended_line}
+use Rattle.plan_run.specs.declared.run_end.RunEnd.TheVariants.{Done, BadLine, Spent, NotKarma}
+use Rattle.plan_run.specs.Ending.{Ending}
+use Rattle.plan_run.specs.LastLines.{bad_line, spent_line}
+
+-- after so many blocks
+unfoldable pub ok_line : ℕ → List ℕ
+ok_line blocks = codes "ok " ++ decimal blocks ++ 10 ∷ []
+
+-- the line with this number isn't the one that is wanted: its number, the wanted line, and the line that was read
+unfoldable pub wanted_text : ℕ → LineKind → List ℕ → List ℕ
+wanted_text number kind wanted = codes "not karma line " ++ decimal number ++ (10 ∷ codes "want ") ++ ended_line kind wanted
+
+unfoldable pub read_text : List ℕ → List ℕ
+read_text line = codes "read " ++ (line ++ 10 ∷ [])
+
+abbrev pub not_karma : ℕ → LineKind → List ℕ → List ℕ → List ℕ
+not_karma number kind wanted line = wanted_text number kind wanted ++ read_text line
+
+-- the numbers of a line of this kind, in a block of so many users: those that its words spell, where they make the line again
+abbrev pub numbers_read : LineKind → ℕ → List ℕ → Option (List ℕ)
+numbers_read kind users line =
+    let numbers = map value_of (drop 1 (words_of line)) in
+    if bytes_eq line (line_text kind numbers) && nat_eq (length numbers) (count_of kind users) && list_all (λ n. nat_le n (limit_of kind)) numbers then Some numbers else None
+
+-- A line of a log has at most 262144 bytes.
+abbrev pub numbers_of_line : LineKind → ℕ → List ℕ → Option (List ℕ)
+numbers_of_line kind users line = if nat_le (length line) 262144 then numbers_read kind users line else None
+
+-- the book, whose quantum is made once the demands were read; the kind of line that is due; and how many lines were read
+pub record AuditState : Type 0 where
+  pub book : BookView
+  pub kind : LineKind
+  pub lines : ℕ
+
+abbrev pub audit_state : BookView → LineKind → ℕ → AuditState
+audit_state book kind lines = record { book = book; kind = kind; lines = lines }
+
+-- how many lines were read, by the quanta made; where demands are due, a quantum is left for them
+abbrev pub IsAt : LineKind → ℕ → ℕ → Type 0
+IsAt Quantum lines quanta = lines ≡ 4 * quanta
+IsAt Demand lines quanta = (lines ≡ 4 * quanta + 1) × (quanta < 2 ^ 28)
+IsAt Slices lines quanta = lines + 2 ≡ 4 * quanta
+IsAt Credits lines quanta = lines + 1 ≡ 4 * quanta
+
+-- where slices or credits are due, the rows are those of the quantum
+abbrev pub IsMade : LineKind → List Row → List Row → Type 0
+IsMade Quantum rows made = Unit {0}
+IsMade Demand rows made = Unit {0}
+IsMade Slices rows made = rows ≡ made
+IsMade Credits rows made = rows ≡ made
+
+abbrev pub next_kind : LineKind → LineKind
+next_kind Quantum = Demand
+next_kind Demand = Slices
+next_kind Slices = Credits
+next_kind Credits = Quantum
+
+abbrev pub is_first : LineKind → Bool
+is_first Quantum = true
+is_first Demand = false
+is_first Slices = false
+is_first Credits = false
+
+-- the numbers that a line must have: the number of the next quantum, or what the last one gave
+abbrev pub wanted : LineKind → BookView → List ℕ
+wanted kind book = numbers_of kind (record { quantum = book.quanta; rows = book.rows })
+
+abbrev pub with_demands : List ℕ → List Row → List Row
+with_demands [] rows = rows
+with_demands (demand ∷ demands) [] = []
+with_demands (demand ∷ demands) (row ∷ rows) = demanding demand row ∷ with_demands demands rows
+
+abbrev pub after_demands : BookView → List ℕ → BookView
+after_demands book demands = ticked (record book { rows = with_demands demands book.rows })
+
+-- a line that is none of the kind that is due; after the last quantum any line ends the run
+abbrev pub bad_ending : BookView → LineKind → ℕ → Ending
+bad_ending book kind lines =
+    if is_first kind && nat_le (2 ^ 28) book.quanta
+    then record { text = spent_line; end = Spent }
+    else record { text = bad_line (lines + 1); end = BadLine }
+
+-- a line that has these numbers: any demands are taken, and make a quantum; all else is compared
+abbrev pub compared : LineKind → AuditState → List ℕ → List ℕ → (AuditState → Ending) → Ending
+compared kind state line numbers others =
+    if bytes_eq numbers (wanted kind state.book)
+    then others (record { book = state.book; kind = next_kind kind; lines = state.lines + 1 })
+    else record { text = not_karma (state.lines + 1) kind (wanted kind state.book) line; end = NotKarma }
+
+abbrev pub judged : LineKind → AuditState → List ℕ → List ℕ → (AuditState → Ending) → Ending
+judged Quantum state line numbers others = compared Quantum state line numbers others
+judged Demand state line numbers others = others (record { book = after_demands state.book numbers; kind = Slices; lines = state.lines + 1 })
+judged Slices state line numbers others = compared Slices state line numbers others
+judged Credits state line numbers others = compared Credits state line numbers others
+
+-- the numbers of the line that is due; None where it is none of that kind, and where no quantum is left
+abbrev pub due_numbers : BookView → LineKind → List ℕ → Option (List ℕ)
+due_numbers book kind line = if is_first kind && nat_le (2 ^ 28) book.quanta then None else numbers_of_line kind book.shape.users line
+
+abbrev pub read_as : AuditState → List ℕ → Option (List ℕ) → (AuditState → Ending) → Ending
+read_as state line None others = bad_ending state.book state.kind state.lines
+read_as state line (Some numbers) others = judged state.kind state line numbers others
+
+-- one line, over what comes of the lines after it
+abbrev pub audit_one : AuditState → List ℕ → (AuditState → Ending) → Ending
+audit_one state line others = read_as state line (due_numbers state.book state.kind line) others
+
+-- the end of the input: after whole blocks all is well, and else the line that is missing is bad
+abbrev pub audit_over : AuditState → Ending
+audit_over state =
+    if is_first state.kind
+    then record { text = ok_line state.book.quanta; end = Done }
+    else record { text = bad_line (state.lines + 1); end = BadLine }
+
+unfoldable pub audit_end : AuditState → List (List ℕ) → Ending
+audit_end state [] = audit_over state
+audit_end state (line ∷ lines) = audit_one state line (λ next. audit_end next lines)
+
+abbrev pub audit_start : Shape → AuditState
+audit_start shape = record { book = opening_book shape; kind = Quantum; lines = 0 }
+
+-- over the lines of a log, from the opening credits
+abbrev pub audited : Shape → List (List ℕ) → Ending
+audited shape lines = audit_end (audit_start shape) lines
