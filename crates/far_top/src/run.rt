@@ -1,7 +1,10 @@
-ghost use Rattle.std.specs.Prelude.{◌≡◌, ◌⊎◌, OnErr, OnOk, [], ◌∷◌, Contains, map, string_bytes};
+ghost use Rattle.std.specs.Prelude.{◌≡◌, ℕ, ◌⊎◌, OnErr, OnOk, List, [], ◌∷◌, Contains, map, string_bytes, Some};
 ghost use Rattle.far_io.specs.Faults.{Rose, Follows};
 ghost use Rattle.far_io.specs.Left.{IsAtEnd};
+ghost use Rattle.far_io.specs.Lines.{lines_of};
 ghost use Rattle.far_io.specs.Adds.{Adds, AddsPrefix};
+ghost use Rattle.karma_rule.specs.declared.shape.Shape.{Shape};
+ghost use Rattle.plan_run.specs.KarmaLog.{IsKarmaLog};
 ghost use Rattle.plan_run.specs.Status.{IsWhole};
 ghost use Rattle.plan_run.specs.Writes.{WritesText, EndsAs, WritesPrefix};
 ghost use Rattle.far_top.specs.declared.command.Command.{Command};
@@ -97,6 +100,12 @@ pub fn run_words<S: Source, O: Sink>(
     ensures part { (command : Command) → IsWords (map string_bytes words.now) command
         → WritesPrefix O.took sink.old sink.new (S.left source.old) (ending_of command) }
     ensures at_end { result ≡ 0 → IsAtEnd (S.left source.new) }
+
+    // An audit ends with 0 exactly where the lines of the input are a log of Karma.
+    ensures accepts { (shape : Shape) → IsWords (map string_bytes words.now) (Command.Audit shape) → result ≡ 0
+        → (bytes : List ℕ) → S.left source.old ≡ Some bytes → IsKarmaLog shape (lines_of bytes) }
+    ensures accepted { (shape : Shape) → IsWords (map string_bytes words.now) (Command.Audit shape) → IsWhole result
+        → (bytes : List ℕ) → S.left source.old ≡ Some bytes → IsKarmaLog shape (lines_of bytes) → result ≡ 0 }
 
     ensures read_fault { result ≡ 4 → Rose (S.faults source.old) (S.faults source.new) }
     ensures write_fault { result ≡ 5 → Rose (O.faults sink.old) (O.faults sink.new) }

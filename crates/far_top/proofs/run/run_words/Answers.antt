@@ -2,6 +2,8 @@ use Rattle.std.proofs.Common.{subst}
 use Rattle.plan_run.specs.Writes.{WritesText, EndsAs, WritesPrefix}
 use Rattle.std.specs.List.{Contains}
 use Rattle.far_top.specs.declared.command.Command.{Command}
+use Rattle.far_top.specs.declared.command.Command.TheVariants.{Audit}
+use Rattle.plan_run.proofs.KarmaLogs.{accepts_status, accepted_status}
 use Rattle.far_top.specs.Commands.{ending_of, statuses_of, WritesAtFault}
 use Rattle.far_top.proofs.Words.{words_unique, words_within}
 use Rattle.far_top.proofs.run.run_words.Goals as goal
@@ -33,3 +35,11 @@ pub returns-in-Some-clause-part : goal.returns-in-Some-clause-part
 returns-in-Some-clause-part g c = λ command good.
     let Part : Command → Type 0 = λ other. WritesPrefix g.O.Sink.took c.args.sink.now c.run_command.new.sink (g.S.Source.left c.args.source.now) (ending_of other) in
     subst Part (words_unique _ c.in-Some.command command c.in-Some.ensures.command good) c.run_command.ensures.part
+
+pub returns-in-Some-clause-accepts : goal.returns-in-Some-clause-accepts
+returns-in-Some-clause-accepts g c = λ shape good.
+    accepts_status shape (g.S.Source.left c.args.source.now) c.run_command.result (returns-in-Some-clause-status g c (Audit shape) good)
+
+pub returns-in-Some-clause-accepted : goal.returns-in-Some-clause-accepted
+returns-in-Some-clause-accepted g c = λ shape good.
+    accepted_status shape (g.S.Source.left c.args.source.now) c.run_command.result (returns-in-Some-clause-status g c (Audit shape) good) good.2.within
