@@ -153,7 +153,7 @@ log_from (l1 ∷ l2 ∷ l3 ∷ l4 ∷ ls) book number most done =
     let left : book.quanta < 2 ^ 28 = leb-false (2 ^ 28) book.quanta one.left in
     let most2 : book.quanta + 1 ≤ 2 ^ 28 = omega arith in
     one_quantum book two.numbers l1 l2 l3 l4 ls two.is_line one.line_is three.line_is four.line_is
-        (log_from ls book2 (number + 1 + 1 + 1 + 1) most2 four.on)
+    (log_from ls book2 (number + 1 + 1 + 1 + 1) most2 four.on)
 
 from_opening : (shape : Shape) (lines : List (List ℕ)) → IsLogFrom (opening_book shape) lines → IsKarmaLog shape lines
 from_opening shape lines log = record {
@@ -264,7 +264,7 @@ credits_within most rows high low = All-map (λ n. n ≤ 2 ^ 64 - 1) (λ (row : 
 -- the four lines of a quantum pass
 block_passes : (book : BookView) (demands : List ℕ) (number : ℕ) (lines : List (List ℕ)) → IsBook book.shape book.quanta book.rows → book.quanta < 2 ^ 28 → length demands ≡ book.shape.users → All (λ demand. demand ≤ 2 ^ 42) demands
     → audit_end (audit_state book Quantum number) (line_text Quantum (wanted Quantum book) ∷ line_text Demand demands ∷ line_text Slices (wanted Slices (after_demands book demands)) ∷ line_text Credits (wanted Credits (after_demands book demands)) ∷ lines)
-      ≡ audit_end (audit_state (after_demands book demands) Quantum (number + 1 + 1 + 1 + 1)) lines
+    ≡ audit_end (audit_state (after_demands book demands) Quantum (number + 1 + 1 + 1 + 1)) lines
 unfolding audit_end
 block_passes book demands number lines inside more long low =
     let next = after_demands book demands in
@@ -278,12 +278,12 @@ block_passes book demands number lines inside more long low =
     let third : List (List ℕ) = line_text Slices (wanted Slices next) ∷ line_text Credits (wanted Credits next) ∷ lines in
     let fourth : List (List ℕ) = line_text Credits (wanted Credits next) ∷ lines in
     passes book Quantum number (wanted Quantum book) (λ state. audit_end state (line_text Demand demands ∷ third)) (λ e. absurd (cc)) refl
-        (due_good book Quantum (wanted Quantum book) (omega arith) refl (All-cons (λ n. n ≤ 2 ^ 32 - 1) book.quanta [] (omega arith) (All-nil (λ n. n ≤ 2 ^ 32 - 1))) (lt-leb (2 ^ 28) book.quanta more))
+    (due_good book Quantum (wanted Quantum book) (omega arith) refl (All-cons (λ n. n ≤ 2 ^ 32 - 1) book.quanta [] (omega arith) (All-nil (λ n. n ≤ 2 ^ 32 - 1))) (lt-leb (2 ^ 28) book.quanta more))
     ∙ one_good book Demand (number + 1) (line_text Demand demands) demands (due_good book Demand demands (omega arith) long low refl) (λ state. audit_end state third)
     ∙ passes next Slices (number + 1 + 1) (wanted Slices next) (λ state. audit_end state fourth) (λ e. absurd (cc)) refl
-        (due_good next Slices (wanted Slices next) (omega arith) slices_many slices_in refl)
+    (due_good next Slices (wanted Slices next) (omega arith) slices_many slices_in refl)
     ∙ passes next Credits (number + 1 + 1 + 1) (wanted Credits next) (λ state. audit_end state lines) (λ e. absurd (cc)) refl
-        (due_good next Credits (wanted Credits next) (omega arith) credits_many credits_in refl)
+    (due_good next Credits (wanted Credits next) (omega arith) credits_many credits_in refl)
 
 all_pass : (quanta : List (List ℕ)) (book : BookView) (number : ℕ) → IsBook book.shape book.quanta book.rows → book.quanta + length quanta ≤ 2 ^ 28
     → All (λ demands. length demands ≡ book.shape.users) quanta → All (λ demands. All (λ demand. demand ≤ 2 ^ 42) demands) quanta → (audit_end (audit_state book Quantum number) (log_lines book quanta)).end ≡ Done
@@ -295,7 +295,7 @@ all_pass (demands ∷ quanta) book number inside many users within =
     let more : book.quanta < 2 ^ 28 = omega arith in
     ap (λ (ending : Ending). ending.end) (block_passes book demands number (log_lines (after_demands book demands) quanta) inside more long low)
     ∙ all_pass quanta (after_demands book demands) (number + 1 + 1 + 1 + 1) (inside_next book demands inside low more) (omega arith)
-        (All-tail (λ (ds : List ℕ). length ds ≡ book.shape.users) demands quanta users) (All-tail (λ (ds : List ℕ). All (λ demand. demand ≤ 2 ^ 42) ds) demands quanta within)
+    (All-tail (λ (ds : List ℕ). length ds ≡ book.shape.users) demands quanta users) (All-tail (λ (ds : List ℕ). All (λ demand. demand ≤ 2 ^ 42) ds) demands quanta within)
 
 opens : (shape : Shape) → IsPlan shape → IsBook shape 0 (replicate shape.users (opening_row shape))
 opens shape plan = record {
