@@ -1,1 +1,2 @@
 pub mod RowsOfBook
+pub mod Grows

@@ -1,3 +1,4 @@
 pub mod Overwritten
 pub mod Book
 pub mod Inside
+pub mod BookLegal

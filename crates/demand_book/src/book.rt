@@ -88,6 +88,13 @@ impl Book {
         })
     }
 
+    /// The shape that the book was made for.
+    pub fn shape(&self) -> Shape
+        ensures { result ≡ self.now.shape }
+    {
+        self.shape
+    }
+
     /// How many users the book has a row for.
     pub fn users(&self) -> u32
         ensures users { result ≡ self.now.shape.users }

@@ -1,0 +1,24 @@
+use Rattle.std.proofs.Common.{◌≡◌, refl, subst, sym}
+use Rattle.demand_book.specs.declared.as_object.BookAsk.TheVariants.{Report, Share, Tick}
+use Rattle.demand_book.specs.declared.as_object.BookTell.TheVariants.{Report as Reported, Share as Shared, Tick as Ticked}
+use Rattle.demand_book.proofs.Grows.{stands_more, report_leaves, tick_leaves, tick_answers}
+use Rattle.demand_book.proofs.as_object.BookObject.apply.Goals as goal
+
+pub returns-in-Report-clause-stands : goal.returns-in-Report-clause-stands
+returns-in-Report-clause-stands c h s =
+    let b = c.args.self.now in
+    let now = report_leaves b c.report.new.self c.in-Report.user c.in-Report.demand c.report.result c.report.ensures.stands c.report.ensures.kept in
+    rw c.in-Report.is (stands_more b c.report.new.self (Report c.in-Report.user c.in-Report.demand) (Reported c.report.result) h s now
+    (record { absent = c.report.ensures.absent; too_much = c.report.ensures.too_much; taken = c.report.ensures.taken }))
+
+pub returns-in-Share-clause-stands : goal.returns-in-Share-clause-stands
+returns-in-Share-clause-stands c h s =
+    let b = c.args.self.now in
+    rw c.in-Share.is (stands_more b b (Share c.in-Share.user) (Shared c.share.result) h s refl (record { absent = c.share.ensures.absent; row = c.share.ensures.row }))
+
+pub returns-in-Tick-clause-stands : goal.returns-in-Tick-clause-stands
+returns-in-Tick-clause-stands c h s =
+    let b = c.args.self.now in
+    let now = tick_leaves b c.tick.new.self c.in-Tick.report c.tick.new.out c.tick.result c.tick.ensures.made c.tick.ensures.kept in
+    let right = tick_answers b c.tick.new.self c.in-Tick.report c.tick.new.out c.tick.result c.tick.ensures.spent c.tick.ensures.made c.tick.ensures.untold c.tick.ensures.told in
+    rw (c.in-Tick.is, c.is_err-spent.ensures.value) (stands_more b c.tick.new.self (Tick c.in-Tick.report) (Ticked c.tick.new.out _) h s now right)

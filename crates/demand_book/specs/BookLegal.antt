@@ -1,0 +1,73 @@
+-- Which histories a demand book can have, by their entries alone.
+use Rattle.std.specs.Prelude.{◌≡◌, ◌==◌, ℕ, ◌<◌, ◌≤◌, ◌^◌, ◌↔◌, Bool, true, false, List, [], ◌∷◌, length, slice_get, Ok, Err, Some, None, IsNone, IfSome}
+use Rattle.std.specs.declared.option.Option.{Option}
+use Rattle.std.specs.declared.result.Result.{Result}
+use Rattle.karma_rule.specs.declared.row.Row.{Row}
+use Rattle.karma_rule.specs.declared.shape.Shape.{Shape}
+use Rattle.karma_rule.specs.Karma.{karma}
+use Rattle.demand_book.specs.declared.book.ReportEnd.{ReportEnd}
+use Rattle.demand_book.specs.declared.book.ReportEnd.TheVariants.{AbsentUser, TooMuch}
+use Rattle.demand_book.specs.declared.report.Report.{Report as Told}
+use Rattle.demand_book.specs.declared.as_object.BookAsk.{BookAsk}
+use Rattle.demand_book.specs.declared.as_object.BookAsk.TheVariants.{Report, Share, Tick}
+use Rattle.demand_book.specs.declared.as_object.BookTell.{BookTell}
+use Rattle.demand_book.specs.declared.as_object.BookTell.TheVariants.{Report as Reported, Share as Shared, Tick as Ticked}
+use Rattle.demand_book.specs.declared.as_object.BookEntry.{BookEntry}
+use Rattle.demand_book.specs.Book.{BookView, opening_book, reported, ticked}
+
+abbrev pub entry_of : BookAsk → BookTell → BookEntry
+entry_of ask tell = record { ask = ask; tell = tell }
+
+abbrev pub shape_of_book : BookView → Shape
+shape_of_book book = book.shape
+
+-- a tick has to bring a row for each user
+abbrev pub fits_book : Shape → BookAsk → Bool
+fits_book shape (Report user demand) = true
+fits_book shape (Share user) = true
+fits_book shape (Tick report) = length report.rows == shape.users
+
+-- the book after a call: a report that was taken stands, a tick that wasn't spent makes a quantum, and all else changes nothing
+abbrev pub book_with : BookView → BookAsk → BookTell → BookView
+book_with book (Report user demand) (Reported (Ok made)) = reported book user demand
+book_with book (Tick report) (Ticked told false) = ticked book
+book_with book _ _ = book
+
+abbrev pub book_after : BookView → List BookEntry → BookView
+book_after book [] = book
+book_after book (e ∷ h) = book_after (book_with book e.ask e.tell) h
+
+-- A report for nobody is refused first, then one above 2^42. One that is taken tells how many quanta were made.
+pub record AnswersReport (book : BookView) (user demand : ℕ) (answer : Result ℕ ReportEnd) : Type 0 where
+  pub absent : book.shape.users ≤ user → answer ≡ Err (AbsentUser book.shape.users)
+  pub too_much : user < book.shape.users → 2 ^ 42 < demand → answer ≡ Err (TooMuch (2 ^ 42))
+  pub taken : user < book.shape.users → demand ≤ 2 ^ 42 → answer ≡ Ok book.quanta
+
+-- the user's row: standing demand, credits, and what the last quantum gave
+pub record AnswersShare (book : BookView) (user : ℕ) (answer : Option Row) : Type 0 where
+  pub absent : IsNone answer ↔ (book.shape.users ≤ user)
+  pub row : IfSome answer (λ row. slice_get book.rows user ≡ Some row)
+
+-- All is spent exactly after 2^28 quanta, and then the report comes back as it was. Else it has the quantum's number, and Karma's rows.
+pub record AnswersTick (book : BookView) (report told : Told) (spent : Bool) : Type 0 where
+  pub exactly : (spent ≡ true) ↔ (2 ^ 28 ≤ book.quanta)
+  pub untold : spent ≡ true → told ≡ report
+  pub quantum : spent ≡ false → told.quantum ≡ book.quanta
+  pub rows : spent ≡ false → told.rows ≡ karma book.rows book.shape.share
+
+-- the answer is right of this book
+abbrev pub IsRight : BookView → BookAsk → BookTell → Type 0
+IsRight book (Report user demand) (Reported answer) = AnswersReport book user demand answer
+IsRight book (Share user) (Shared answer) = AnswersShare book user answer
+IsRight book (Tick report) (Ticked told spent) = AnswersTick book report told spent
+IsRight book _ _ = ⊥
+
+-- each answer of the history is right at its place
+abbrev pub BookLegal : BookView → List BookEntry → Type 0
+BookLegal book [] = Unit {0}
+BookLegal book (e ∷ h) = IsRight book e.ask e.tell × BookLegal (book_with book e.ask e.tell) h
+
+-- the history is that of a new book, and the book is what it became
+pub record StandsFor (book : BookView) (h : List BookEntry) : Type 0 where
+  pub legal : BookLegal (opening_book book.shape) h
+  pub became : book ≡ book_after (opening_book book.shape) h
