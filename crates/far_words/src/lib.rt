@@ -16,3 +16,6 @@ pub use moves::{Moves, PlacedRow};
 pub use part::Part;
 pub use path::Path;
 pub use request::{Kind, Outcome, Reply, Request};
+
+#[cfg(test)]
+mod tests;

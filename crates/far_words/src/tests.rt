@@ -1,0 +1,26 @@
+use crate::{Blob, Moves, Path, PlacedRow};
+use std::test::Fail;
+
+#[test]
+fn bytes_and_moves_are_kept(rt: HostRuntime) -> Result<(), Fail> {
+    let mut blob = Blob::from_slice(rt.alloc(), b"ab")?;
+    blob.push(b'c')?;
+    blob.extend_from_slice(b"de")?;
+    assert_eq!(rt; blob.items(), b"abcde".as_slice());
+
+    let mut moves = Moves::new(rt.alloc(), 1)?;
+    moves.push_freed(7, 3);
+    let Some(path) = Path::parse(b"job/in") else {
+        panic!(rt; "it is a path")
+    };
+    moves.push_placed(PlacedRow {
+        slice: 2,
+        number: 5,
+        path,
+        index: 0,
+    })?;
+    assert_eq!(rt; moves.freed(), [(7, 3)].as_slice());
+    assert_eq!(rt; moves.placed().len(), 1);
+    assert_eq!(rt; moves.placed()[0].number, 5);
+    Ok(())
+}
