@@ -1,7 +1,8 @@
 -- How the rule by levels moves slices: every row of a side moves until its key is down at a level, and then one more each, by number, while some are left.
-use Rattle.std.specs.Prelude.{ℕ, ◌+◌, ◌-◌, ◌^◌, ◌<◌, ◌≤◌, ◌≡◌, min, Bool, ◌&&◌, ◌==◌, nat_lt, if◌then◌else◌, List, [], ◌∷◌, length, slice_index}
+use Rattle.std.specs.Prelude.{ℕ, ◌+◌, ◌-◌, ◌^◌, ◌<◌, ◌≤◌, ◌≡◌, min, max, Bool, ◌&&◌, ◌==◌, nat_lt, if◌then◌else◌, List, [], ◌∷◌, length, slice_index}
 use Rattle.std.specs.List.{sum}
 use Rattle.karma_rule.specs.declared.row.Row.{Row}
+use Rattle.karma_batch.specs.declared.ramp.Ramp.{Ramp}
 use Rattle.karma_batch.specs.declared.side.Side.{Side}
 use Rattle.karma_batch.specs.declared.side.Side.TheVariants.{Borrowers, Donors}
 use Rattle.karma_rule.specs.Laws.{row_at}
@@ -25,10 +26,9 @@ moved_by Donors row slices = record { demand = row.demand; credits = row.credits
 abbrev pub above : Side → ℕ → ℕ → Row → ℕ
 above side floor level row = min (room_of side floor row) (key_of side row - level)
 
--- the row moves all its slices while its key is between the two levels
-pub record MovesBetween (side : Side) (floor lowest highest : ℕ) (row : Row) : Type 0 where
-  pub from : 0 < room_of side floor row → key_of side row ≤ highest
-  pub to : 0 < room_of side floor row → lowest + room_of side floor row ≤ key_of side row
+-- how many slices a ramp moves until it is down at the level
+abbrev pub over : ℕ → Ramp → ℕ
+over level ramp = ramp.to - max ramp.from level
 
 -- is at the level then, and can move one more
 abbrev pub is_at_level : Side → ℕ → ℕ → Row → Bool

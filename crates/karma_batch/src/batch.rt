@@ -1,16 +1,16 @@
-ghost use Rattle.std.specs.Prelude.{◌≡◌, ℕ, ◌+◌, ◌-◌, ◌^◌, ◌<◌, ◌≤◌, length, map, All, EachIndex};
+ghost use Rattle.std.specs.Prelude.{◌≡◌, ◌+◌, ◌-◌, ◌^◌, ◌<◌, ◌≤◌, length, map, All, EachIndex};
 ghost use Rattle.karma_rule.specs.Karma.{karma};
 ghost use Rattle.karma_rule.specs.Laws.{demand_of, row_at, total_given, usable, IsLevelled};
 
-use crate::level::sum_above;
+use crate::level::total_room;
 use crate::side::Side;
 use crate::spread::spread_count;
 use karma_rule::{Row, Share, close_rows, open_rows};
 
 /// Makes one quantum: the rows become those that Karma's rule gives, by levels of credits.
 ///
-/// It takes no memory, and a time that grows with the count of users times the bits of a credit, whatever the count
-/// of loans.
+/// It takes no memory but a buffer on the stack, and a time that grows with the count of users times the bits of a
+/// credit, whatever the count of loans.
 pub fn batch_quantum(rows: &mut [Row], share: Share)
     requires users { length rows.old ≤ 1024 }
     requires fair { share.fair ≤ 2 ^ 32 }
@@ -35,11 +35,12 @@ pub fn batch_quantum(rows: &mut [Row], share: Share)
     ensures levelled { IsLevelled rows.old rows.new share }
 {
     open_rows(rows, share);
-    let donated = sum_above(rows, Side::Donors, share.floor, 0);
+    let wanted = total_room(rows, Side::Borrowers, share.floor);
+    let donated = total_room(rows, Side::Donors, share.floor);
     let shared = rows.len() as u64 * (share.fair - share.floor);
-    let loans = sum_above(rows, Side::Borrowers, share.floor, 0).min(donated + shared);
-    spread_count(rows, Side::Borrowers, share.floor, loans);
-    spread_count(rows, Side::Donors, share.floor, loans.min(donated));
+    let loans = wanted.min(donated + shared);
+    spread_count(rows, Side::Borrowers, share.floor, wanted, loans);
+    spread_count(rows, Side::Donors, share.floor, donated, loans.min(donated));
     close_rows(rows);
 }
 

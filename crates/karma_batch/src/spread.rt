@@ -1,8 +1,8 @@
-ghost use Rattle.std.specs.Prelude.{◌≡◌, ℕ, ◌+◌, ◌^◌, ◌<◌, ◌≤◌, length, sum_by, All};
+ghost use Rattle.std.specs.Prelude.{◌≡◌, ◌+◌, ◌^◌, ◌<◌, ◌≤◌, length, sum_by, All};
 ghost use Rattle.karma_rule.specs.OpenRow.{IsOpenRow};
 ghost use Rattle.karma_batch.specs.Levels.{key_of, room_of, moved_by, extra, amount, amounts, all_moved, Spreads};
 
-use crate::level::{level_for, sum_above};
+use crate::level::level_for;
 use crate::side::{Side, key, part_above, room};
 use karma_rule::Row;
 
@@ -28,8 +28,8 @@ fn move_part(row: &mut Row, side: Side, floor: u64, level: u64, rest: u64) -> u6
     ensures extra { result ≡ extra side floor level rest row.old }
 {
     let part = part_above(row, side, floor, level);
-    let at_level = part < room(row, side, floor) && key(row, side) - part == level;
-    let extra = if rest > 0 && at_level { 1 } else { 0 };
+    let at_level = (part < room(row, side, floor)) & (key(row, side) - part == level);
+    let extra = u64::from((rest > 0) & at_level);
     move_by(row, side, part + extra);
     extra
 }
@@ -45,15 +45,15 @@ fn spread_at(rows: &mut [Row], side: Side, floor: u64, level: u64, mut rest: u64
     }
 }
 
-/// Moves `count` slices of a side, each by the row that comes first then.
-pub fn spread_count(rows: &mut [Row], side: Side, floor: u64, count: u64)
+/// Moves `count` of the `total` slices that a side can move, each by the row that comes first then.
+pub fn spread_count(rows: &mut [Row], side: Side, floor: u64, total: u64, count: u64)
     requires users { length rows.old ≤ 1024 }
     requires floor { floor ≤ 2 ^ 32 }
     requires rows_open { All (IsOpenRow floor) rows.old }
-    requires count { count ≤ sum_by (room_of side floor) rows.old }
+    requires total { total ≡ sum_by (room_of side floor) rows.old }
+    requires count { count ≤ total }
     ensures { Spreads side floor count rows.old rows.new }
 {
-    let level = level_for(rows, side, floor, count);
-    let rest = count - sum_above(rows, side, floor, level);
-    spread_at(rows, side, floor, level, rest);
+    let found = level_for(rows, side, floor, total, count);
+    spread_at(rows, side, floor, found.level, count - found.moved);
 }

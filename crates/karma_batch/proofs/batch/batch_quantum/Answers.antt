@@ -1,52 +1,41 @@
 use Rattle.std.proofs.Common.{◌≡◌, ℕ, ◌+◌, ◌-◌, ◌*◌, ◌^◌, ◌≤◌, min, List, length, map, sum_by, sym, ap, ◌∙◌, arith}
-use Rattle.std.specs.List.{All}
 use Rattle.karma_rule.specs.declared.row.Row.{Row}
-use Rattle.karma_batch.specs.declared.side.Side.{Side}
 use Rattle.karma_batch.specs.declared.side.Side.TheVariants.{Borrowers, Donors}
 use Rattle.karma_rule.specs.Karma.{opened, opening, closing, row_of}
-use Rattle.karma_rule.specs.Laws.{row_at}
-use Rattle.karma_rule.specs.OpenRow.{user_of, quantum_of, IsOpenRow}
-use Rattle.karma_batch.specs.Levels.{room_of, above}
+use Rattle.karma_rule.specs.OpenRow.{user_of, quantum_of}
+use Rattle.karma_batch.specs.Levels.{room_of}
 use Rattle.karma_rule.proofs.OneLoan.{quantum}
 use Rattle.karma_rule.proofs.Walks.{map-map}
 use Rattle.karma_rule.proofs.Laws.{karma_keeps}
-use Rattle.karma_batch.proofs.LevelRows.{key_bound, sum_bound}
-use Rattle.karma_batch.proofs.BatchRows.{opened_rows, sum_whole, spread_open, room_spread, batch_ends, shared_bound}
+use Rattle.karma_batch.proofs.LevelRows.{total_bound}
+use Rattle.karma_batch.proofs.BatchRows.{opened_rows, spread_open, room_spread, batch_ends, shared_bound}
 use Rattle.karma_batch.proofs.batch.batch_quantum.Goals as goal
-
--- the parts at the level 0 are all that can move
-whole : (side : Side) (floor : ℕ) (rows : List Row) → All (IsOpenRow floor) rows → sum_by (above side floor 0) rows ≡ sum_by (room_of side floor) rows
-whole side floor rows w = sum_whole side floor rows (λ k l. (key_bound side floor (row_at rows k) (w k _ l)).1)
 
 pub overflow_add-donated : goal.overflow_add-donated
 overflow_add-donated c =
     let lengths : length c.open_rows.new.rows ≡ length c.args.rows.now = c.open_rows.auto.rows in
     let floor : c.args.share.floor ≤ 2 ^ 32 = omega (arith, c.requires.floor, c.requires.fair) in
     let few : length c.open_rows.new.rows ≤ 1024 = omega (arith, c.requires.users) in
-    let donated : sum_by (above Donors c.args.share.floor 0) c.open_rows.new.rows ≤ 2 ^ 52 = sum_bound Donors c.args.share.floor 0 c.open_rows.new.rows few floor c.open_rows.ensures.rows_open in
+    let donated : sum_by (room_of Donors c.args.share.floor) c.open_rows.new.rows ≤ 2 ^ 52 = total_bound Donors c.args.share.floor c.open_rows.new.rows few floor c.open_rows.ensures.rows_open in
     let shared : length c.open_rows.new.rows * (c.args.share.fair - c.args.share.floor) ≤ 2 ^ 42 = shared_bound (length c.open_rows.new.rows) c.args.share.fair c.args.share.floor few c.requires.fair in
-    omega (arith, c.sum_above-donated.ensures)
+    omega (arith, c.total_room-donated.ensures)
 
 pub spread_count-requires-2-clause-rows_open : goal.spread_count-requires-2-clause-rows_open
 spread_count-requires-2-clause-rows_open c =
     spread_open c.args.share.floor c.open_rows.new.rows c.spread_count.new.rows (opened_rows c.args.share c.open_rows.new.rows c.args.rows.now c.open_rows.ensures.users c.open_rows.ensures.rows_open) c.min-loans.result c.spread_count.ensures
 
-pub spread_count-requires-2-clause-count : goal.spread_count-requires-2-clause-count
-spread_count-requires-2-clause-count c =
-    let room : sum_by (room_of Donors c.args.share.floor) c.spread_count.new.rows ≡ sum_by (room_of Donors c.args.share.floor) c.open_rows.new.rows =
-    room_spread c.args.share.floor c.open_rows.new.rows c.spread_count.new.rows (opened_rows c.args.share c.open_rows.new.rows c.args.rows.now c.open_rows.ensures.users c.open_rows.ensures.rows_open) c.min-loans.result c.spread_count.ensures in
-    let all : sum_by (above Donors c.args.share.floor 0) c.open_rows.new.rows ≡ sum_by (room_of Donors c.args.share.floor) c.open_rows.new.rows = whole Donors c.args.share.floor c.open_rows.new.rows c.open_rows.ensures.rows_open in
-    omega (arith, c.sum_above-donated.ensures, c.min.ensures)
+pub spread_count-requires-2-clause-total : goal.spread_count-requires-2-clause-total
+spread_count-requires-2-clause-total c =
+    c.total_room-donated.ensures
+    ∙ sym (room_spread c.args.share.floor c.open_rows.new.rows c.spread_count.new.rows (opened_rows c.args.share c.open_rows.new.rows c.args.rows.now c.open_rows.ensures.users c.open_rows.ensures.rows_open) c.min-loans.result c.spread_count.ensures)
 
 pub returns-clause-rows : goal.returns-clause-rows
 returns-clause-rows c =
     let floor : ℕ = c.args.share.floor in
     let rows0 : List Row = c.open_rows.new.rows in
     let shared : ℕ = length rows0 * (c.args.share.fair - c.args.share.floor) in
-    let wanted : sum_by (above Borrowers c.args.share.floor 0) rows0 ≡ sum_by (room_of Borrowers c.args.share.floor) rows0 = whole Borrowers c.args.share.floor rows0 c.open_rows.ensures.rows_open in
-    let donated : sum_by (above Donors c.args.share.floor 0) rows0 ≡ sum_by (room_of Donors c.args.share.floor) rows0 = whole Donors c.args.share.floor rows0 c.open_rows.ensures.rows_open in
-    let loans : c.min-loans.result ≡ min (sum_by (room_of Borrowers c.args.share.floor) rows0) (sum_by (room_of Donors c.args.share.floor) rows0 + shared) = omega (arith, c.min-loans.ensures, c.sum_above.ensures, c.sum_above-donated.ensures) in
-    let lent : c.min.result ≡ min c.min-loans.result (sum_by (room_of Donors c.args.share.floor) rows0) = omega (arith, c.min.ensures, c.sum_above-donated.ensures) in
+    let loans : c.min-loans.result ≡ min (sum_by (room_of Borrowers c.args.share.floor) rows0) (sum_by (room_of Donors c.args.share.floor) rows0 + shared) = omega (arith, c.min-loans.ensures, c.total_room-wanted.ensures, c.total_room-donated.ensures) in
+    let lent : c.min.result ≡ min c.min-loans.result (sum_by (room_of Donors c.args.share.floor) rows0) = omega (arith, c.min.ensures, c.total_room-donated.ensures) in
     let users : map (user_of c.args.share.floor) c.spread_count-2.new.rows ≡ (closing (quantum_of c.args.share.floor rows0 shared)).users =
     batch_ends c.args.share.floor rows0 c.spread_count.new.rows (opened_rows c.args.share rows0 c.args.rows.now c.open_rows.ensures.users c.open_rows.ensures.rows_open) c.min-loans.result c.spread_count.ensures c.min.result c.spread_count-2.new.rows c.spread_count-2.ensures shared loans lent in
     let start : quantum_of c.args.share.floor rows0 shared ≡ opening c.args.share c.args.rows.now =
