@@ -1,5 +1,5 @@
 //! Two users that report at once.
-ghost use Rattle.std.specs.Prelude.{◌≡◌, ◌≤◌, ◌+◌, ◌-◌, ◌^◌, IfOk, length};
+ghost use Rattle.std.specs.Prelude.{◌≡◌, ◌≤◌, ◌+◌, ◌-◌, ◌^◌, ℕ, IfOk, Err, length};
 ghost use Rattle.turn_cell.specs.History.{In, calls_by, entries};
 ghost use Rattle.karma_rule.specs.Limits.{IsPlan};
 ghost use Rattle.demand_book.specs.BookLegal.{StandsFor};
@@ -30,12 +30,20 @@ pub enum ReportersEnd {
 }
 
 impl From<AllocError> for ReportersEnd {
+    ghost use Rattle.book_cell.specs.declared.reporters.ReportersEnd.TheVariants.{NoMemory};
+
+    ghost from_gives = { λ _ end. end ≡ NoMemory };
+
     fn from(_: AllocError) -> ReportersEnd {
         ReportersEnd::NoMemory
     }
 }
 
 impl From<PassEnd> for ReportersEnd {
+    ghost use Rattle.book_cell.specs.declared.reporters.ReportersEnd.TheVariants.{NoPass};
+
+    ghost from_gives = { λ pass end. end ≡ NoPass pass };
+
     fn from(end: PassEnd) -> ReportersEnd {
         ReportersEnd::NoPass(end)
     }
@@ -73,9 +81,12 @@ pub fn report_at_once<R: Threads + Wait + Sync>(
 ) -> Result<Reported, ReportersEnd>
     requires { IsPlan shape }
     ensures stands { IfOk result (λ done. StandsFor done.book (entries done.shown)) }
+    ensures shape { IfOk result (λ done. done.book.shape ≡ shape) }
     ensures first { IfOk result (λ done. length (calls_by 0 done.shown) ≡ calls) }
     ensures second { IfOk result (λ done. length (calls_by done.second done.shown) ≡ calls) }
     ensures left { IfOk result (λ done. done.calls_left + calls ≡ 2 ^ 32) }
+    // A pass is missing only where all of them were drawn.
+    ensures no_pass { (made : ℕ) → result ≡ Err (ReportersEnd.NoPass (PassEnd.NoMorePasses made)) → 2 ^ 30 ≤ made }
 {
     let (cell, mut first) = TurnCell::new(alloc, Book::new(alloc, shape)?)?;
     let second = first.split(&cell)?;

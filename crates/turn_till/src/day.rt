@@ -1,7 +1,7 @@
 //! A day at a till, which two threads serve.
-ghost use Rattle.std.specs.Prelude.{◌≡◌, ◌≤◌, ◌+◌, ◌-◌, ◌^◌, true, IfOk, length};
+ghost use Rattle.std.specs.Prelude.{◌≡◌, ◌≤◌, ◌+◌, ◌-◌, ◌^◌, true, ℕ, IfOk, Err, length};
 ghost use Rattle.turn_cell.specs.History.{In, calls_by, entries};
-ghost use Rattle.turn_till.specs.Standing.{StandsFor};
+ghost use Rattle.turn_till.specs.Standing.{StandsFor, key_of_till};
 
 use crate::till::{Till, TillAsk, TillTell};
 use std::alloc::{AllocError, Global};
@@ -30,12 +30,20 @@ pub enum DayEnd {
 }
 
 impl From<AllocError> for DayEnd {
+    ghost use Rattle.turn_till.specs.declared.day.DayEnd.TheVariants.{NoMemory};
+
+    ghost from_gives = { λ _ end. end ≡ NoMemory };
+
     fn from(_: AllocError) -> DayEnd {
         DayEnd::NoMemory
     }
 }
 
 impl From<PassEnd> for DayEnd {
+    ghost use Rattle.turn_till.specs.declared.day.DayEnd.TheVariants.{NoPass};
+
+    ghost from_gives = { λ pass end. end ≡ NoPass pass };
+
     fn from(end: PassEnd) -> DayEnd {
         DayEnd::NoPass(end)
     }
@@ -114,9 +122,12 @@ pub fn serve_two<R: Threads + Wait + Sync>(
 ) -> Result<Day, DayEnd>
     requires { 1 ≤ calls }
     ensures stands { IfOk result (λ day. StandsFor day.till (entries day.shown)) }
+    ensures float { IfOk result (λ day. key_of_till day.till ≡ record { float = float }) }
     ensures owner { IfOk result (λ day. length (calls_by 0 day.shown) ≡ calls) }
     ensures clerk { IfOk result (λ day. length (calls_by day.clerk day.shown) ≡ calls) }
     ensures left { IfOk result (λ day. day.calls_left + calls ≡ 2 ^ 32) }
+    // A pass is missing only where all of them were drawn.
+    ensures no_pass { (made : ℕ) → result ≡ Err (DayEnd.NoPass (PassEnd.NoMorePasses made)) → 2 ^ 30 ≤ made }
 {
     let (cell, mut owner) = TurnCell::new(alloc, Till::new(float))?;
     let clerk = owner.split(&cell)?;
