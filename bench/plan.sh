@@ -9,16 +9,8 @@ lines=${1:-2000} seed=${2:-20261130}
 work=$(mktemp -d)
 trap 'rm -rf "$work"' EXIT
 
-# seconds COMMAND..: the least wall-clock time of three runs; the command's own input and output are set by the caller's function
-seconds() {
-  local best="" from to took
-  for _ in 1 2 3; do
-    from=$(date +%s%N); "$@"; to=$(date +%s%N)
-    took=$((to - from))
-    if [ -z "$best" ] || [ "$took" -lt "$best" ]; then best=$took; fi
-  done
-  awk -v t="$best" 'BEGIN { printf "%.4f", t / 1e9 }'
-}
+# each command's own input and output are set by the caller's function
+. "$here/seconds.sh"
 ours() { "$program" plan $words < "$work/in" > "$work/out"; }
 audited() { "$program" audit $words < "$work/out" > "$work/audit"; }
 counted() { wc -w < "$work/in" > /dev/null; }

@@ -7,6 +7,7 @@ ghost use Rattle.block_home.specs.Homes.{HomeView, IsAlike, granted_of, used_of,
 
 use crate::blocks::{add_blocks, cut_blocks, fill_last, read_blocks};
 use block_home::{Home, HomeEnd};
+use far_words::Blob;
 use std::alloc::Global;
 use std::marker::Model;
 
@@ -102,11 +103,11 @@ impl FileBody {
         home: &mut Home,
         from: u64,
         len: u32,
-        out: &mut Vec<u8>,
+        out: &mut Blob,
     ) -> Result<(), HomeEnd>
         requires sound { IsSound home.old self.old }
-        ensures bytes { OnOk result ((bytes : List ℕ) → IsFile home.old self.old bytes → out.new.items ≡ take len (drop from bytes)) }
-        ensures err { OnErr result (out.new.items ≡ []) }
+        ensures bytes { OnOk result ((bytes : List ℕ) → IsFile home.old self.old bytes → out.new ≡ take len (drop from bytes)) }
+        ensures err { OnErr result (out.new ≡ []) }
         ensures cause { IsOkUnless result HomeEnd.NoMemory }
         ensures home_stays { home.new ≡ home.old }
         ensures file_stays { self.new ≡ self.old }
@@ -117,7 +118,7 @@ impl FileBody {
         if out.resize(count as usize, 0).is_err() {
             return Err(HomeEnd::NoMemory);
         }
-        if let Err(end) = read_blocks(&self.blocks, home, from, out) {
+        if let Err(end) = read_blocks(&self.blocks, home, from, out.items_mut()) {
             out.clear();
             return Err(end);
         }

@@ -3,6 +3,7 @@ ghost use Rattle.block_file.specs.Files.{IsSound};
 
 use crate::FileBody;
 use block_home::{Home, HomeEnd};
+use far_words::Blob;
 use slice_seq::Slice;
 use std::alloc::{AllocError, Global};
 use std::process::Abort;
@@ -54,9 +55,9 @@ fn expect_read(
     requires { IsSound home.old file.old }
     ensures { IsSound home.new file.new }
 {
-    let mut out = Vec::new(alloc);
+    let mut out = Blob::new(alloc);
     assert!(rt; file.read(home, range.0, range.1, &mut out).is_ok());
-    assert!(rt; out.as_slice() == expected);
+    assert!(rt; out.items() == expected);
 }
 
 #[test]

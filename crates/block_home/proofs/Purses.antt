@@ -5,7 +5,8 @@ use Rattle.std.specs.Option.{option_map_or}
 use Rattle.std.proofs.lemmas.List.Sums.{length-filter}
 use Rattle.block_home.proofs.Tables.{count_by-entries}
 use Rattle.block_home.specs.Tables.{entries_from, entries_of}
-use Rattle.block_home.specs.Purses.{Held, Purse, is_used, open_slices, lowest, holds, place_of}
+use Rattle.slice_seq.specs.Purses.{Held, Purse, is_used, open_slices, holds}
+use Rattle.block_home.specs.Purses.{lowest, place_of}
 
 -- whether a place of the table has an open slice, or one with this block
 abbrev pub open_at : Option Held → Bool

@@ -19,7 +19,8 @@ use Rattle.block_home.specs.declared.seat.Seat.{Seat}
 use Rattle.block_home.specs.declared.seat.Seat.TheVariants.{Empty, Idle, Busy, Stray}
 use Rattle.block_home.specs.declared.cell.Cell.{Cell}
 use Rattle.block_home.specs.declared.cell.Cell.TheVariants.{Vacant, Resident}
-use Rattle.block_home.specs.Purses.{Held, Purse, is_used, used, open_slices, next_place, holds, place_of, block_in}
+use Rattle.slice_seq.specs.Purses.{Held, Purse, is_used, used, open_slices, holds}
+use Rattle.block_home.specs.Purses.{next_place, place_of, block_in}
 use Rattle.block_home.specs.Seats.{held_in, block_of, slice_of, bytes_in, is_open, is_empty, is_stray, purse_of, blocks_of, strays_of, slice_in, used_in}
 use Rattle.block_home.specs.Well.{AreTables}
 use Rattle.block_home.proofs.Tables.{find-entries, length-entries, count_by-cons, count_by-map}

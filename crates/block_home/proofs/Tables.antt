@@ -3,7 +3,9 @@ use Rattle.std.proofs.Common.{nat_lt, ◌≡◌, ℕ, zero, suc, ◌+◌, ◌<�
 use Rattle.std.specs.declared.option.Option.{Option}
 use Rattle.std.specs.declared.cmp.Ordering.TheVariants.{Less, Equal, Greater}
 use Rattle.std.specs.Option.{option_map_or}
-use Rattle.std.specs.List.{position, position_or_len}
+use Rattle.std.specs.List.{AllByRecursion, position, position_or_len}
+use Rattle.std.specs.List.Sorted.{IsStrictlySortedBy}
+use Rattle.std.specs.Map.{keys_of}
 use Rattle.std.proofs.lemmas.List.Sums.{sum_by-cons, sum_by-set}
 use Rattle.std.proofs.lemmas.Bool.Decides.{nat_tests}
 use Rattle.std.specs.Ordering.{nat_cmp, is_eq}
@@ -133,3 +135,15 @@ position_there p xs l e = by (nat_lt (position_or_len p xs) (length xs)) refl
         let past : length xs ≤ position_or_len p xs = grind (arith, nat_tests) in
         let zero_is : count_by p xs ≡ 0 = none_passes p xs past in
         omega arith
+
+-- the numbers of the map ascend
+above_all : {X : Type 0} (low from : ℕ) (xs : List (Option X)) → low < from → AllByRecursion (λ k. nat_cmp low k ≡ Less) (keys_of (entries_from from xs))
+above_all low from [] l = tt
+above_all low from (None ∷ xs) l = above_all low (from + 1) xs (omega arith)
+above_all low from (Some x ∷ xs) l = (sym (nat_cmp_is low from Less l), above_all low (from + 1) xs (omega arith))
+
+pub entries_ascend : {X : Type 0} (from : ℕ) (xs : List (Option X)) → IsStrictlySortedBy nat_cmp (keys_of (entries_from from xs))
+unfolding IsStrictlySortedBy
+entries_ascend from [] = tt
+entries_ascend from (None ∷ xs) = entries_ascend (from + 1) xs
+entries_ascend from (Some x ∷ xs) = (above_all from (from + 1) xs (omega arith), entries_ascend (from + 1) xs)

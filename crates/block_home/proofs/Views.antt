@@ -16,7 +16,8 @@ use Rattle.block_home.specs.declared.seat.Seat.{Seat}
 use Rattle.block_home.specs.declared.seat.Seat.TheVariants.{Empty, Idle, Busy, Stray}
 use Rattle.block_home.specs.declared.cell.Cell.{Cell}
 use Rattle.block_home.specs.declared.cell.Cell.TheVariants.{Vacant, Resident}
-use Rattle.block_home.specs.Purses.{Purse, open_slices, next_place, place_of}
+use Rattle.slice_seq.specs.Purses.{Purse, open_slices}
+use Rattle.block_home.specs.Purses.{next_place, place_of}
 use Rattle.block_home.specs.Seats.{blocks_of, bytes_in, purse_of, strays_of, used_in, slice_of, slice_in, is_open, is_empty, is_busy, is_vacant, is_stray, block_of, held_in}
 use Rattle.block_home.specs.Homes.{HomeView, bytes_at, room_of, granted_of, can_hold, IsNewNumber}
 use Rattle.block_home.specs.Well.{view_of, IsWell}

@@ -3,7 +3,7 @@ use Rattle.std.specs.Prelude.{◌≡◌, ℕ, ◌+◌, ◌<◌, ◌&&◌, nat_lt
 use Rattle.std.specs.Option.{unwrap_or}
 use Rattle.std.specs.Ordering.{nat_cmp}
 use Rattle.std.specs.FinMap.{find, put}
-use Rattle.block_home.specs.Purses.{Purse, used, open_slices}
+use Rattle.slice_seq.specs.Purses.{Purse, used, open_slices}
 use Rattle.block_home.specs.Noted.{MovesView, no_moves}
 
 pub record HomeView : Type 0 where

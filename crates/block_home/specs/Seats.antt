@@ -8,7 +8,7 @@ use Rattle.block_home.specs.declared.seat.Seat.TheVariants.{Empty, Idle, Busy, S
 use Rattle.block_home.specs.declared.cell.Cell.{Cell}
 use Rattle.block_home.specs.declared.cell.Cell.TheVariants.{Vacant, Resident}
 use Rattle.block_home.specs.Tables.{entries_of}
-use Rattle.block_home.specs.Purses.{Held, Purse, is_worn}
+use Rattle.slice_seq.specs.Purses.{Held, Purse, is_worn}
 
 abbrev pub held_in : Seat → Option Held
 held_in Empty = None

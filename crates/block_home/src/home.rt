@@ -1,12 +1,15 @@
 //! The home.
-ghost use Rattle.std.specs.Prelude.{◌≡◌, ℕ, ◌==◌, if◌then◌else◌, IfSome, ◌+◌, ◌≤◌, ◌<◌, ◌⊎◌, [], length, take, drop, IsTrue, IsSome, IsOk, IfOk, Some, None, false, replicate, Err};
+ghost use Rattle.std.specs.Prelude.{◌≡◌, ℕ, ◌==◌, ◌↔◌, if◌then◌else◌, IfSome, ◌+◌, ◌≤◌, ◌<◌, ◌⊎◌, [], length, take, drop, IsTrue, IsSome, IsOk, IfOk, Some, None, false, replicate, Err};
 ghost use Rattle.std.specs.Ordering.{nat_cmp};
 ghost use Rattle.std.specs.FinMap.{find, put};
+ghost use Rattle.std.specs.List.Sorted.{IsStrictlySortedBy};
+ghost use Rattle.std.specs.Map.{keys_of};
 ghost use Rattle.std.specs.Option.{option_map};
 ghost use Rattle.slice_seq.specs.Used.{written_at};
 ghost use Rattle.slice_seq.specs.Slice.{raised};
 ghost use Rattle.block_home.specs.Tables.{without};
-ghost use Rattle.block_home.specs.Purses.{is_worn, next_place, with_block, without_block, place_of, block_in};
+ghost use Rattle.slice_seq.specs.Purses.{is_worn};
+ghost use Rattle.block_home.specs.Purses.{next_place, with_block, without_block, place_of, block_in};
 ghost use Rattle.block_home.specs.Noted.{no_moves, noting_placed, noting_freed};
 ghost use Rattle.block_home.specs.Homes.{HomeView, HasBlock, bytes_at, granted_of, used_of, room_of, can_hold, with_slice, IsAlike, empty_home, with_stray, IsNewNumber};
 
@@ -92,6 +95,10 @@ impl Home {
         ensures exhausted { room_of self.old < need → result ≡ Err (HomeEnd.Exhausted need (used_of self.old) (granted_of self.old)) }
         ensures room { granted_of self.old ≡ used_of self.old + room_of self.old }
         ensures same { self.new ≡ self.old }
+
+        // What `room` says of each home.
+        ensures resident { (block : ℕ) → HasBlock self.old block → IsSome (place_of self.old.purse block) }
+        ensures ordered { IsStrictlySortedBy nat_cmp (keys_of self.old.purse) }
     {
         if need <= u64::from(self.room()) {
             return Ok(());
@@ -269,9 +276,19 @@ impl Home {
         self.slices - self.empty_seats.count()
     }
 
-    /// How many blocks can be placed.
+    /// Whether as many slices are held as the home has room for. While none is kept aside, no slice can be held then.
+    pub fn is_full(&self) -> bool
+        ensures full { IsTrue result ↔ (self.now.slices ≤ granted_of self.now) }
+        ensures open { (slice : ℕ) → IsTrue (can_hold self.now slice) → self.now.strays ≡ 0 → result ≡ false }
+    {
+        self.empty_seats.count() == 0
+    }
+
+    /// How many blocks can be placed. Each block lies in a slice, and the slices stand in the order of their ids.
     pub fn room(&self) -> u32
-        ensures { result ≡ room_of self.now }
+        ensures value { result ≡ room_of self.now }
+        ensures resident { (block : ℕ) → HasBlock self.now block → IsSome (place_of self.now.purse block) }
+        ensures ordered { IsStrictlySortedBy nat_cmp (keys_of self.now.purse) }
     {
         self.open_seats.count()
     }

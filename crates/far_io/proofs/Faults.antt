@@ -1,7 +1,7 @@
 -- Laws of counts of faults.
-use Rattle.std.proofs.Common.{◌≡◌, ℕ, ◌≤◌, Option, Some, None, refl, ◌∙◌, subst, arith}
-use Rattle.std.specs.Prelude.{IfSome}
-use Rattle.far_io.specs.Faults.{Faults, Rose, Follows}
+use Rattle.std.proofs.Common.{◌≡◌, ℕ, ◌≤◌, Option, Some, None, Result, Ok, Err, refl, ◌∙◌, subst, arith}
+use Rattle.std.specs.Prelude.{IfSome, OnErr}
+use Rattle.far_io.specs.Faults.{Faults, Rose, Follows, HasCause}
 
 follows_none : (most : Option ℕ) (n : ℕ) → IfSome most (λ m. n ≤ m → n ≤ m)
 follows_none None n = tt
@@ -40,3 +40,14 @@ rose_after a b c rose second = record {
 pub never_rises : (a b : Faults) → Follows a b → a.most ≡ Some 0 → Rose a b → ⊥
 never_rises a b follows never rose =
     let within : b.count ≤ 0 = subst (λ most. IfSome most (λ m. b.count ≤ m)) (follows.most ∙ never) rose.within in omega (arith, rose.rose)
+
+pub on_error : {T E P : Type 0} (result : Result T E) → P → OnErr result P
+on_error (Ok _) fact = tt
+on_error (Err _) fact = fact
+
+-- a call that failed, after others
+pub failed_after : {U F : Type 0} (a b c : Faults) (result : Result U F) → Follows a b → Follows b c → Rose b c → HasCause a c result
+failed_after a b c result before follows rose = record {
+  follows = follows_on a b c before follows;
+  failed = on_error result (rose_before a b c before rose);
+}

@@ -6,6 +6,7 @@ pub mod Buffers
 pub mod ReadLaws
 pub mod Sends
 pub mod Decimals
+pub mod Escapes
 pub mod WordLaws
 pub mod AnyCutting
 mod Rows

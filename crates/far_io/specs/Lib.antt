@@ -10,3 +10,4 @@ pub mod Gains
 pub mod Sends
 pub mod Decimals
 pub mod Words
+pub mod Escapes

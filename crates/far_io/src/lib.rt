@@ -1,5 +1,5 @@
 //! Bytes in and bytes out: the traits of sources and sinks, their forms in memory and over std, lines of input that
-//! are the same for every cutting of it, and small texts: decimals and words.
+//! are the same for every cutting of it, and small texts: decimals, words and escaped texts.
 //!
 //! A source or a sink counts its faults, and a call over it answers a fault only where that count rose. What a source
 //! has left and what a sink took are told by the forms in memory and not by the real ones; clauses on content hold
@@ -7,6 +7,7 @@
 #![tactic(auto)]
 
 mod decimal;
+mod escape;
 mod lines;
 mod outside;
 mod piece;
@@ -20,6 +21,7 @@ mod tests;
 mod words;
 
 pub use decimal::parse_decimal;
+pub use escape::{parse_escaped, push_escaped, put_escaped};
 pub use lines::{LineBuf, LineEnd, read_line};
 pub use outside::{Failed, Sink, Source};
 pub use piece::{Piece, flush, make_room, push_decimal};
@@ -28,4 +30,4 @@ pub use raw::Raw;
 pub use real::{ReadSource, WriteSink};
 pub use sinks::{MemSink, SureSink};
 pub use sources::{MemSource, SureSource};
-pub use words::split_word;
+pub use words::{next_number, split_word};

@@ -1,6 +1,7 @@
 use crate::{
     Failed, LineBuf, LineEnd, MemSink, MemSource, Raw, ReadSource, Sink, Source, SureSink,
-    SureSource, WriteFault, WriteSink, parse_decimal, put_all, put_decimal, read_line, split_word,
+    SureSource, WriteFault, WriteSink, parse_decimal, parse_escaped, put_all, put_decimal,
+    put_escaped, read_line, split_word,
 };
 use std::io::{self, ErrorKind, Read, Write};
 use std::test::Fail;
@@ -98,6 +99,37 @@ fn decimals_good_and_bad(rt: HostRuntime) -> Result<(), Fail> {
         (b"100000000000000000000", None),
     ] {
         assert_eq!(rt; parse_decimal(text), want);
+    }
+    Ok(())
+}
+
+#[test]
+fn escapes_both_ways(rt: HostRuntime) -> Result<(), Fail> {
+    let table: [(&[u8], &[u8]); 6] = [
+        (b"", b"%"),
+        (b"%", b"%25"),
+        (b"a b\n", b"a%20b%0A"),
+        (b"!~", b"!~"),
+        (b"\x00\x7F\xFF", b"%00%7F%FF"),
+        (b"%41", b"%2541"),
+    ];
+    for (bytes, text) in table {
+        let mut sink = MemSink::new(rt.alloc(), Vec::new(rt.alloc()));
+        assert_eq!(rt; put_escaped(&mut sink, bytes), Ok(()));
+        assert_eq!(rt; sink.bytes(), text);
+        let read = parse_escaped(rt.alloc(), text)?.ok_or("no bytes")?;
+        assert_eq!(rt; read.items(), bytes);
+    }
+    Ok(())
+}
+
+#[test]
+fn texts_that_no_bytes_have(rt: HostRuntime) -> Result<(), Fail> {
+    let table: [&[u8]; 10] = [
+        b"", b"%%", b"%2", b"a%", b"%0a", b"%41", b"%7E", b"a b", b"\x7F", b"%G0",
+    ];
+    for text in table {
+        assert!(rt; parse_escaped(rt.alloc(), text)?.is_none());
     }
     Ok(())
 }

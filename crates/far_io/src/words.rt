@@ -1,8 +1,10 @@
 //! Words of a line.
 
-ghost use Rattle.std.specs.Prelude.{◌≡◌, ◌<◌, ◌≤◌, ◌∷◌, length, slice_index, take};
+ghost use Rattle.std.specs.Prelude.{◌≡◌, ◌≢◌, ℕ, ◌<◌, ◌≤◌, List, ◌∷◌, length, slice_index, take, decimal, IfSome, IfNone};
 ghost use Rattle.std.specs.Option.{option_copied};
 ghost use Rattle.far_io.specs.Words.{words_of, words_after, HasNoSpace};
+
+use crate::decimal::parse_decimal;
 
 // How many bytes come before the first space, all where there is none.
 fn find_space(line: &[u8]) -> usize
@@ -30,4 +32,18 @@ pub fn split_word(line: &[u8]) -> (&[u8], Option<&[u8]>)
         return (line, None);
     }
     (&line[..end], Some(&line[end + 1..]))
+}
+
+/// The number that the first of these words spells, where it is a decimal of at most `limit`, and the words after it.
+pub fn next_number(words: Option<&[u8]>, limit: u64) -> Option<(u64, Option<&[u8]>)>
+    ensures number { IfSome result (λ found. words_after (option_copied words.entry) ≡ decimal found.0 ∷ words_after (option_copied found.1)) }
+    ensures within { IfSome result (λ found. found.0 ≤ limit) }
+    ensures nothing { IfNone result ((number : ℕ) → number ≤ limit → (others : List (List ℕ)) → words_after (option_copied words.entry) ≢ decimal number ∷ others) }
+{
+    let (word, others) = split_word(words?);
+    let number = parse_decimal(word)?;
+    if number > limit {
+        return None;
+    }
+    Some((number, others))
 }

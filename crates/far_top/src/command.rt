@@ -11,9 +11,11 @@ pub enum Command {
     Plan(Shape),
     /// A judgement of a log of such blocks.
     Audit(Shape),
+    /// An outcome, with its moves, for each line of a script.
+    Replay(Shape),
 }
 
-ghost use Rattle.far_top.specs.Commands.{IsShapeWords, IsWords, IsNoWords};
+ghost use Rattle.far_top.specs.Commands.{IsShapeWords, IsStoreWords, IsWords, IsNoWords};
 
 // The numbers of a plan: users, fair share, floor and starting credits.
 fn read_shape(words: &[String]) -> Option<Shape>
@@ -33,6 +35,23 @@ fn read_shape(words: &[String]) -> Option<Shape>
     }
 }
 
+// The numbers of a store: those of a plan, and the size of a slice. One user is served as yet.
+fn read_store(words: &[String]) -> Option<Shape>
+    ensures shape { IfSome result (λ shape. IsStoreWords (map string_bytes words.now) shape) }
+    ensures none { IfNone result ((shape : Shape) → IsStoreWords (map string_bytes words.now) shape → ⊥) }
+{
+    let (last, others) = words.split_last()?;
+    let slice = parse_decimal(last.as_bytes())?;
+    let plan = read_shape(others)?;
+    if plan.users != 1 {
+        return None;
+    }
+    match Shape::store(1, plan.share.fair, plan.share.floor, plan.credits, slice) {
+        Ok(shape) => Some(shape),
+        Err(_) => None,
+    }
+}
+
 /// Reads the words after the program's name. None says that they are outside the grammar: a wrong name or count of
 /// words, a word that is no decimal, or a number out of its limits. `docs/FORMATS.md` has the words.
 pub fn read_words(words: &[String]) -> Option<Command>
@@ -40,10 +59,10 @@ pub fn read_words(words: &[String]) -> Option<Command>
     ensures none { IfNone result (IsNoWords (map string_bytes words.now)) }
 {
     let (name, others) = words.split_first()?;
-    let shape = read_shape(others)?;
     match name.as_bytes() {
-        b"plan" => Some(Command::Plan(shape)),
-        b"audit" => Some(Command::Audit(shape)),
+        b"plan" => Some(Command::Plan(read_shape(others)?)),
+        b"audit" => Some(Command::Audit(read_shape(others)?)),
+        b"replay" => Some(Command::Replay(read_store(others)?)),
         _ => None,
     }
 }

@@ -1,3 +1,5 @@
+mod replays;
+
 use crate::run_words;
 use far_io::{MemSink, MemSource, Raw};
 use std::test::Fail;
@@ -111,6 +113,16 @@ fn words_outside_the_grammar(rt: HostRuntime) -> Result<(), Fail> {
         "plan 3 4294967297 1 5",
         "plan 3 2 1 1152921504606846977",
         "plan  3 2 1 5",
+        "replay",
+        "replay 1 4 4 0",
+        "replay 1 4 4 0 64 0",
+        "replay 2 4 4 0 64",
+        "replay 0 4 4 0 64",
+        "replay 1 4 5 0 64",
+        "replay 1 4 4 0 63",
+        "replay 1 4 4 0 65537",
+        "replay 1 4 4 0 064",
+        "replay 1 16385 0 0 65536",
     ] {
         let (status, _, written) = run(&rt, words, b"3 2 1\n", 7, u64::MAX, u64::MAX)?;
         assert_eq!(rt; status, 2);

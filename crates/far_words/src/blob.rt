@@ -1,7 +1,10 @@
 //! Bytes of any length.
-ghost use Rattle.std.specs.Prelude.{◌≡◌, ℕ, ◌++◌, ◌∷◌, [], length, nat_eq, IfOk, OnErr, OnOk};
+ghost use Rattle.std.specs.Prelude.{◌≡◌, ℕ, ◌-◌, ◌++◌, ◌∷◌, [], length, take, replicate, nat_eq, IfOk, OnErr, OnOk};
+ghost use Rattle.std.specs.Borrow.{Lends, Array, sem, u8 as octet};
 ghost use Rattle.std.specs.Cmp;
 ghost use Rattle.std.specs.Cmp.Lexicographic.{pointwise, nat_list_eq_equiv};
+ghost use Rattle.far_words.specs.contracts.blob.Blob.{the_row};
+ghost use Rattle.far_words.specs.Overwritten.{overwritten};
 
 use std::alloc::{AllocError, AllocFailed, Global};
 use std::marker::Model;
@@ -43,6 +46,24 @@ impl Blob {
         ensures { result.now ≡ self.now }
     {
         self.bytes.as_slice()
+    }
+
+    /// The bytes, to be written over where they stand.
+    pub fn items_mut(&mut self) -> &mut [u8]
+        ensures* writes_back { sem 𝓛 (Lends the_row (Array octet 0) self.entry result (overwritten self.old)) }
+        ensures value { result.now ≡ self.old }
+        ensures len { length result.now ≡ length self.old }
+    {
+        self.bytes.as_mut_slice()
+    }
+
+    /// Makes it so many bytes: those at the beginning stay, and further ones are `byte`. At an `Err` the bytes stand as they were.
+    pub fn resize(&mut self, len: usize, byte: u8) -> Result<(), AllocError>
+        ensures ok { OnOk result (self.new ≡ take len (self.old ++ replicate (len - length self.old) byte)) }
+        ensures len { OnOk result (length self.new ≡ len) }
+        ensures err { OnErr result (self.new ≡ self.old) }
+    {
+        self.bytes.resize(len, byte)
     }
 
     /// Adds a byte at the end. At an `Err` the bytes stand as they were.

@@ -80,6 +80,13 @@ impl Moves {
         }
     }
 
+    /// Notes these placed blocks in place of those that were noted. It takes no memory.
+    pub fn set_placed(&mut self, rows: Vec<PlacedRow>)
+        ensures { self.new ≡ record self.old { placed = rows.items } }
+    {
+        self.placed = rows;
+    }
+
     /// Forgets all moves. The room stays.
     pub fn clear(&mut self)
         ensures { self.new ≡ no_moves self.old.room }

@@ -40,6 +40,8 @@ pub enum Reply {
     Full { limit: u64 },
     /// The request needs `need` slices, and the user has `granted`, of which `used` are used.
     Exhausted { need: u64, used: u64, granted: u64 },
+    /// There are `users` users, and this isn't one of them.
+    AbsentUser { users: u32 },
     NoMemory,
 }
 
@@ -47,6 +49,12 @@ pub enum Reply {
 #[derive(PartialEq, Eq, Debug, Drop)]
 pub enum Outcome {
     Reply(Reply),
+    /// The slice is on its way, under this number.
+    Slice { slice: u32, number: u64 },
     /// The slice was taken in, under this number.
     Granted { slice: u32, number: u64 },
+    /// No slice is in the hand.
+    HandEmpty,
+    /// No slice is in the pool.
+    PoolEmpty,
 }

@@ -11,6 +11,7 @@ ghost use Rattle.block_file.specs.Files.{IsSound};
 use block_file::FileBody;
 use block_home::Home;
 use far_io::parse_decimal;
+use far_words::Blob;
 use slice_seq::Slice;
 use std::alloc::{AllocError, Global};
 use std::env;
@@ -105,14 +106,14 @@ fn read_all(
     requires sound { IsSound home.old file.old }
     ensures sound { IsSound home.new file.new }
 {
-    let mut out = Vec::new(alloc);
+    let mut out = Blob::new(alloc);
     let mut sum = 0u64;
     let mut place = 0u64;
     for _call in 0..times {
         if file.read(home, place, piece, &mut out).is_err() {
             return None;
         }
-        sum = sum.wrapping_add(u64::from(out.first().copied().unwrap_or(0)));
+        sum = sum.wrapping_add(u64::from(out.items().first().copied().unwrap_or(0)));
         place = place.wrapping_add(7_919 * 64) % file.length().max(1);
     }
     Some(sum)

@@ -33,6 +33,14 @@ next_line left now old new reads = record { told = λ others told. let got = rea
 pub next_too_long : (left now : Option (List ℕ)) (old new : LineView) (limit : ℕ) → ReadsTooLong left now old new limit → IsNext left (λ line. limit < length line)
 next_too_long left now old new limit reads = record { told = λ others told. let got = reads.told others told in (line_of others, after_line others, got.0, got.1.lines) }
 
+-- the line was taken from what was left, with its line end or as the last
+pub piece_of : (left now : Option (List ℕ)) (old new : LineView) → ReadsLine left now old new → new.ended ≡ false → (others : List ℕ) → left ≡ Some others
+    → (rest : List ℕ) × (now ≡ Some rest) × (others ≡ (new.line ++ 10 ∷ []) ++ rest)
+piece_of left now old new reads going others told = elim reads.spelled.1 [
+  | inl p ↦ in_front_told (new.line ++ 10 ∷ []) others now (sym p.1 ∙ told)
+  | inr p ↦ absurd (cc (p.0, going))
+]
+
 after_both : (a b : List ℕ) (ending : Ending) → after_text a (after_text b ending) ≡ after_text (a ++ b) ending
 after_both a b ending = ap (λ t. record { text = t; end = ending.end }) (sym (append_assoc a b ending.text))
 
@@ -113,14 +121,6 @@ module _ {R O : Type 0} (ending : R → List (List ℕ) → Ending) (one : R →
         adds_equal took before now so_far.sent (ending first (ended_lines_of (a.0 ++ new.ahead))).text (sym same) so_far.adds,
       )
 
-  -- the line was taken from what was left, with its line end or as the last
-  piece_of : (left_later : Option (List ℕ)) (old new : LineView) → ReadsLine left left_later old new → new.ended ≡ false → (others : List ℕ) → left ≡ Some others
-      → (rest : List ℕ) × (left_later ≡ Some rest) × (others ≡ (new.line ++ 10 ∷ []) ++ rest)
-  piece_of left_later old new reads going others told = elim reads.spelled.1 [
-    | inl p ↦ in_front_told (new.line ++ 10 ∷ []) others left_later (sym p.1 ∙ told)
-    | inr p ↦ absurd (cc (p.0, going))
-  ]
-
   pub goes_on : (later : O) (left_later : Option (List ℕ)) (old new : LineView) (next : R) → SoFar ending took before now input left first state ended → ended ≡ false → ReadsLine left left_later old new
       → GoesOn took now later (one state new.line) next → SoFar ending took before later input left_later first next new.ended
   goes_on later left_later old new next so_far was_going reads goes =
@@ -137,7 +137,7 @@ module _ {R O : Type 0} (ending : R → List (List ℕ) → Ending) (one : R →
             );
         seen = λ going bytes told.
             let a = so_far.seen was_going bytes told in
-            let got = piece_of left_later old new reads going a.1 a.2 in (
+            let got = piece_of left left_later old new reads going a.1 a.2 in (
               a.0 ++ (new.line ++ 10 ∷ []),
               got.0,
               got.1,

@@ -1,4 +1,3 @@
-pub mod Faults
 pub mod Sent
 pub mod Words
 pub mod Numbers

@@ -1,4 +1,4 @@
-ghost use Rattle.std.specs.Prelude.{◌≡◌, ◌≢◌, ℕ, ◌≤◌, List, ◌∷◌, length, decimal, IfSome, IfNone};
+ghost use Rattle.std.specs.Prelude.{◌≡◌, ℕ, List, length};
 ghost use Rattle.std.specs.Bool.{OnTrue, OnFalse};
 ghost use Rattle.std.specs.Option.{option_copied};
 ghost use Rattle.far_io.specs.Words.{words_after};
@@ -7,21 +7,7 @@ ghost use Rattle.quantum_text.specs.Block.{AreNumbers, IsLine, IsNoLine};
 
 use crate::line_kind::LineKind;
 use demand_book::Report;
-use far_io::{parse_decimal, split_word};
-
-// The number that the first of the words spells, where it is a decimal of at most `limit`, and the words after it.
-fn next_number(words: Option<&[u8]>, limit: u64) -> Option<(u64, Option<&[u8]>)>
-    ensures number { IfSome result (λ found. words_after (option_copied words.entry) ≡ decimal found.0 ∷ words_after (option_copied found.1)) }
-    ensures within { IfSome result (λ found. found.0 ≤ limit) }
-    ensures nothing { IfNone result ((number : ℕ) → number ≤ limit → (others : List (List ℕ)) → words_after (option_copied words.entry) ≢ decimal number ∷ others) }
-{
-    let (word, others) = split_word(words?);
-    let number = parse_decimal(word)?;
-    if number > limit {
-        return None;
-    }
-    Some((number, others))
-}
+use far_io::{next_number, split_word};
 
 // Whether the words are so many decimals of at most `limit`.
 fn are_numbers(words: Option<&[u8]>, count: usize, limit: u64) -> bool

@@ -1,2 +1,3 @@
 pub mod Slice
 pub mod Used
+pub mod Purses

@@ -1,4 +1,4 @@
-use Rattle.std.proofs.Common.{◌≡◌, length, take, drop, min, vec_len, sym, ap, ◌∙◌, subst, arith, length-drop}
+use Rattle.std.proofs.Common.{◌≡◌, length, take, drop, min, sym, ap, ◌∙◌, subst, arith, length-drop}
 use Rattle.std.proofs.lemmas.List.{take_at}
 use Rattle.std.proofs.lemmas.Grind.{common_steps}
 use Rattle.block_file.specs.Files.{FileView, HoldsBytes}
@@ -10,11 +10,11 @@ returns-clause-bytes c = λ bytes file.
     let length_is : c.self.inside.length ≡ c.args.self.now.length = ap (λ (f : FileView). f.length) c.self.view_is in
     let blocks_are : c.self.inside.blocks.items ≡ c.args.self.now.blocks = ap (λ (f : FileView). f.blocks) c.self.view_is in
     let read = c.read_blocks.new.out in
-    let resized : vec_len c.resize.new.self ≡ c.min-count.result = grind (arith, common_steps) in
-    let room : length c.deref_mut.result.now ≡ c.min-count.result = c.deref_mut.ensures.len ∙ resized in
+    let resized : length c.resize.new.self ≡ c.min-count.result = grind (arith, common_steps) in
+    let room : length c.items_mut.result.now ≡ c.min-count.result = c.items_mut.ensures.len ∙ resized in
     let count : c.min-count.result ≡ min (length (drop c.args.from bytes)) c.args.len = omega (arith, length-drop c.args.from bytes, file.size_is, c.min-count.ensures, c.saturating_sub.ensures, c.from.ensures) in
     let holds = subst (λ bs. HoldsBytes c.args.home.now bs bytes) (sym (c.deref.ensures.value ∙ blocks_are)) file.holds in
-    take_at read _ c.resize.new.self.len (c.read_blocks.auto.out ∙ c.deref_mut.ensures.len)
+    take_at read _ (length c.resize.new.self) (c.read_blocks.auto.out ∙ c.items_mut.ensures.len)
     ∙ c.read_blocks.ensures.bytes bytes holds (λ some. omega (arith, length-drop c.args.from bytes))
     ∙ ap (λ n. take n (drop c.args.from bytes)) room
     ∙ take_count c.min-count.result c.args.len (drop c.args.from bytes) count

@@ -1,6 +1,6 @@
 use Rattle.std.proofs.Common.{[], ◌∷◌}
 use Rattle.far_io.proofs.Sends.{prefix_longer}
-use Rattle.quantum_text.proofs.Faults.{on_error}
+use Rattle.far_io.proofs.Faults.{on_error}
 use Rattle.plan_run.proofs.Texts.{then_all, then_prefix}
 use Rattle.plan_run.proofs.audit.put_ended.Goals as goal
 

@@ -1,6 +1,6 @@
 use Rattle.std.proofs.Common.{[], ◌∷◌, ◌++◌, codes}
 use Rattle.far_io.proofs.Sends.{prefix_longer}
-use Rattle.quantum_text.proofs.Faults.{on_error}
+use Rattle.far_io.proofs.Faults.{on_error}
 use Rattle.plan_run.specs.AuditText.{read_text}
 use Rattle.plan_run.proofs.Texts.{then_all, then_prefix}
 use Rattle.plan_run.proofs.audit.put_read.Goals as goal

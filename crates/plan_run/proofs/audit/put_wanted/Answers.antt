@@ -2,7 +2,7 @@ use Rattle.std.proofs.Common.{◌≡◌, ℕ, List, [], ◌∷◌, ◌++◌, cod
 use Rattle.far_io.specs.Adds.{Adds, AddsPrefix}
 use Rattle.quantum_text.specs.declared.line_kind.LineKind.{LineKind}
 use Rattle.quantum_text.specs.Block.{ended_line}
-use Rattle.quantum_text.proofs.Faults.{on_error}
+use Rattle.far_io.proofs.Faults.{on_error}
 use Rattle.plan_run.specs.AuditText.{wanted_text}
 use Rattle.plan_run.proofs.Texts.{sent_all, sent_prefix}
 use Rattle.plan_run.proofs.audit.put_wanted.Goals as goal

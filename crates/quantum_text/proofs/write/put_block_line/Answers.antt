@@ -3,8 +3,8 @@ use Rattle.far_io.specs.Sends.{spaced}
 use Rattle.far_io.proofs.Sends.{sends_more}
 use Rattle.quantum_text.specs.LineKind.{word_of, numbers_of}
 use Rattle.quantum_text.specs.Block.{line_text, ended_line}
-use Rattle.quantum_text.proofs.Faults.{on_error}
-use Rattle.quantum_text.proofs.Sent.{held_more, fault_within}
+use Rattle.far_io.proofs.Faults.{on_error}
+use Rattle.far_io.proofs.Sends.{held_more, fault_within}
 use Rattle.quantum_text.proofs.write.put_block_line.Goals as goal
 
 pub returns-in_err-put_numbers-clause-prefix : goal.returns-in_err-put_numbers-clause-prefix

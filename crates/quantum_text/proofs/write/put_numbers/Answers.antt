@@ -3,7 +3,7 @@ use Rattle.std.specs.Fmt.{decimal}
 use Rattle.far_io.proofs.Faults.{follows_itself, follows_on}
 use Rattle.far_io.proofs.Sends.{sends_nothing, sends_equal, sends_number, prefix_number, spaced_none}
 use Rattle.quantum_text.specs.LineKind.{numbers_of}
-use Rattle.quantum_text.proofs.Faults.{on_error, failed_after}
+use Rattle.far_io.proofs.Faults.{on_error, failed_after}
 use Rattle.quantum_text.proofs.write.put_numbers.Goals as goal
 
 pub loop-index-init : goal.loop-index-init

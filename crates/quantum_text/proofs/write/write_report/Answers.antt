@@ -6,8 +6,9 @@ use Rattle.far_io.proofs.Sends.{sends_more, sends_equal}
 use Rattle.quantum_text.specs.declared.line_kind.LineKind.TheVariants.{Quantum}
 use Rattle.quantum_text.specs.LineKind.{block_kinds}
 use Rattle.quantum_text.specs.Block.{report_text}
-use Rattle.quantum_text.proofs.Faults.{on_error}
-use Rattle.quantum_text.proofs.Sent.{kinds_text, kinds_text_more, kinds_text_split, all_kinds_text, fault_within, all_sent}
+use Rattle.far_io.proofs.Faults.{on_error}
+use Rattle.far_io.proofs.Sends.{fault_within, all_sent}
+use Rattle.quantum_text.proofs.Sent.{kinds_text, kinds_text_more, kinds_text_split, all_kinds_text}
 use Rattle.quantum_text.proofs.write.write_report.Goals as goal
 
 pub loop-kind-preserved : goal.loop-kind-preserved

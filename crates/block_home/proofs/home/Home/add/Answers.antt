@@ -10,7 +10,8 @@ use Rattle.block_home.specs.declared.seat.Seat.{Seat}
 use Rattle.block_home.specs.declared.seat.Seat.TheVariants.{Empty, Busy}
 use Rattle.block_home.specs.declared.cell.Cell.{Cell}
 use Rattle.block_home.specs.declared.cell.Cell.TheVariants.{Vacant, Resident}
-use Rattle.block_home.specs.Purses.{Held, Purse, holding, next_place, place_of, open_slices}
+use Rattle.slice_seq.specs.Purses.{Held, Purse, holding, open_slices}
+use Rattle.block_home.specs.Purses.{next_place, place_of}
 use Rattle.block_home.specs.Noted.{MovesView, noting_placed}
 use Rattle.block_home.specs.Seats.{blocks_of, purse_of, strays_of, slice_in, slice_of, is_open, is_empty, is_vacant, is_stray}
 use Rattle.block_home.specs.Homes.{HomeView, IsNewNumber}
@@ -162,8 +163,8 @@ returns-clause-purse c =
     let held : Held = record { number = slice.number + 1; block = Some block } in
     ap (λ (xs : List Seat). purse_of xs) c.begin_use-used.ensures.seats ∙ purse-set home.seats.items id (Busy block (slice.number + 1)) held in_seats refl
     ∙ ap (λ (p : Purse). put nat_cmp id held p) (purse_in home _ c.self.view_is c.self.invariant)
-    ∙ ap (λ (n : ℕ). holding c.args.self.now.purse (id, slice.number + 1) (Some n)) (sym c.from-block.ensures)
-    ∙ ap (λ (o : Option (ℕ × ℕ)). option_map_or (λ place. holding c.args.self.now.purse place (Some c.from-block.result)) o c.args.self.now.purse) (sym (open_next home _ c.self.view_is c.self.invariant id first))
+    ∙ ap (λ (n : ℕ). holding c.args.self.now.purse id (slice.number + 1) (Some n)) (sym c.from-block.ensures)
+    ∙ ap (λ (o : Option (ℕ × ℕ)). option_map_or (λ place. holding c.args.self.now.purse place.0 place.1 (Some c.from-block.result)) o c.args.self.now.purse) (sym (open_next home _ c.self.view_is c.self.invariant id first))
 
 pub returns-clause-moves : goal.returns-clause-moves
 returns-clause-moves c =

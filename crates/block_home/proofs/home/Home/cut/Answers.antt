@@ -10,7 +10,8 @@ use Rattle.block_home.specs.declared.seat.Seat.TheVariants.{Empty, Idle, Busy}
 use Rattle.block_home.specs.declared.cell.Cell.{Cell}
 use Rattle.block_home.specs.declared.cell.Cell.TheVariants.{Vacant, Resident}
 use Rattle.block_home.specs.Tables.{without}
-use Rattle.block_home.specs.Purses.{Held, Purse, holding, is_worn, place_of, open_slices}
+use Rattle.slice_seq.specs.Purses.{Held, Purse, holding, is_worn, open_slices}
+use Rattle.block_home.specs.Purses.{place_of}
 use Rattle.block_home.specs.Noted.{MovesView, noting_freed}
 use Rattle.block_home.specs.Seats.{blocks_of, purse_of, strays_of, used_in, slice_of, is_open, is_empty, is_vacant, is_stray, is_bare}
 use Rattle.block_home.specs.Homes.{HomeView}
@@ -112,7 +113,7 @@ returns-clause-purse c =
     ap (λ (xs : List Seat). purse_of xs) (seats_are c)
     ∙ purse-set home.seats.items used.id (Idle (record { id = used.id; size = used.size; number = used.number })) held (cut_low home _ c.self.view_is c.self.invariant c.args.block c.requires) refl
     ∙ ap (λ (p : Purse). put nat_cmp used.id held p) (purse_in home _ c.self.view_is c.self.invariant)
-    ∙ ap (λ (o : Option (ℕ × ℕ)). option_map_or (λ place. holding c.args.self.now.purse place None) o c.args.self.now.purse) (sym (cut_place home _ c.self.view_is c.self.invariant c.args.block c.requires))
+    ∙ ap (λ (o : Option (ℕ × ℕ)). option_map_or (λ place. holding c.args.self.now.purse place.0 place.1 None) o c.args.self.now.purse) (sym (cut_place home _ c.self.view_is c.self.invariant c.args.block c.requires))
 
 pub returns-clause-places : goal.returns-clause-places
 returns-clause-places c =

@@ -5,7 +5,8 @@ use Rattle.std.proofs.lemmas.Bool.{both_ways}
 use Rattle.slice_seq.specs.Slice.{SliceView, raised}
 use Rattle.block_home.specs.declared.seat.Seat.{Seat}
 use Rattle.block_home.specs.declared.seat.Seat.TheVariants.{Empty, Idle}
-use Rattle.block_home.specs.Purses.{Held, Purse, place_of}
+use Rattle.slice_seq.specs.Purses.{Held, Purse}
+use Rattle.block_home.specs.Purses.{place_of}
 use Rattle.block_home.specs.Seats.{purse_of, strays_of, held_in, slice_in, is_open, is_empty, is_stray, is_bare}
 use Rattle.block_home.specs.Homes.{HomeView, granted_of, with_stray}
 use Rattle.block_home.specs.Well.{AreTables}

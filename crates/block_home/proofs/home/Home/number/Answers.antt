@@ -2,7 +2,7 @@ use Rattle.std.proofs.Common.{◌≡◌, subst, sym, ap, ◌∙◌}
 use Rattle.std.specs.FinMap.{find}
 use Rattle.std.specs.Option.{option_map}
 use Rattle.std.specs.Ordering.{nat_cmp}
-use Rattle.block_home.specs.Purses.{Held}
+use Rattle.slice_seq.specs.Purses.{Held}
 use Rattle.block_home.specs.Homes.{HomeView}
 use Rattle.block_home.proofs.Seats.{find-purse}
 use Rattle.block_home.proofs.home.Home.number.Goals as goal

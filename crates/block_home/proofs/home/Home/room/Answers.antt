@@ -1,12 +1,25 @@
-use Rattle.std.proofs.Common.{◌≡◌, map, ap, sym, subst, ◌∙◌}
+use Rattle.std.proofs.Common.{◌≡◌, ℕ, is_some, map, ap, sym, subst, ◌∙◌}
+use Rattle.std.specs.declared.option.Option.{Option}
+use Rattle.std.specs.Ordering.{nat_cmp}
+use Rattle.std.specs.List.Sorted.{IsStrictlySortedBy}
+use Rattle.std.specs.Map.{keys_of}
 use Rattle.id_set.specs.IdSet as set
-use Rattle.block_home.specs.Seats.{is_open}
+use Rattle.slice_seq.specs.Purses.{Purse}
+use Rattle.block_home.specs.Seats.{held_in, is_open}
 use Rattle.block_home.specs.Homes.{HomeView, room_of}
+use Rattle.block_home.proofs.Tables.{entries_ascend}
 use Rattle.block_home.proofs.Seats.{length-open_purse}
+use Rattle.block_home.proofs.Views.{cut_place, purse_in}
 use Rattle.block_home.proofs.home.Home.room.Goals as goal
 
-pub returns : goal.returns
-returns c =
+pub returns-clause-value : goal.returns-clause-value
+returns-clause-value c =
     let seats = c.self.inside.seats.items in
     let count : c.count.result ≡ set.count (map is_open seats) = c.count.ensures ∙ ap set.count c.self.invariant.open_are in
     subst (λ (v : HomeView). c.count.result ≡ room_of v) c.self.view_is (count ∙ sym (length-open_purse seats))
+
+pub returns-clause-resident : goal.returns-clause-resident
+returns-clause-resident c = λ block there. ap (λ (o : Option (ℕ × ℕ)). is_some o) (cut_place c.self.inside _ c.self.view_is c.self.invariant block there)
+
+pub returns-clause-ordered : goal.returns-clause-ordered
+returns-clause-ordered c = subst (λ (p : Purse). IsStrictlySortedBy nat_cmp (keys_of p)) (purse_in c.self.inside _ c.self.view_is c.self.invariant) (entries_ascend 0 (map held_in c.self.inside.seats.items))

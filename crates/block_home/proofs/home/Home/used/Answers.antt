@@ -3,7 +3,7 @@ use Rattle.block_home.proofs.Seats.{used_and_open}
 use Rattle.block_home.proofs.home.Home.used.Goals as goal
 
 pub overflow_sub-result : goal.overflow_sub-result
-overflow_sub-result c = omega (arith, c.room.ensures, c.granted.ensures, used_and_open c.args.self.now.purse)
+overflow_sub-result c = omega (arith, c.room.ensures.value, c.granted.ensures, used_and_open c.args.self.now.purse)
 
 pub returns : goal.returns
-returns c = omega (arith, c.room.ensures, c.granted.ensures, used_and_open c.args.self.now.purse)
+returns c = omega (arith, c.room.ensures.value, c.granted.ensures, used_and_open c.args.self.now.purse)

@@ -1,0 +1,204 @@
+//! The core: what comes to it, and what it does.
+ghost use Rattle.std.specs.Prelude.{◌≡◌, ℕ, ◌<◌, ◌++◌, ◌∷◌, [], List, length, IfOk};
+ghost use Rattle.slice_seq.specs.Slice.{SliceView};
+ghost use Rattle.karma_rule.specs.Limits.{IsStore};
+ghost use Rattle.far_words.specs.Moves.{no_moves};
+ghost use Rattle.far_history.specs.Entries.{Ask};
+
+use crate::slices::Slices;
+use far_words::{Moves, Outcome, Reply, Request};
+use karma_rule::Shape;
+use std::alloc::{AllocError, Global};
+use std::marker::Model;
+use tenant_world::{Tenant, TenantAsk, Told};
+
+/// What comes to a core.
+#[derive(Debug, Drop)]
+pub enum CoreEvent {
+    /// A request of a user.
+    Ask { user: u32, request: Request },
+    /// The pool's lowest slice comes into the hand.
+    Draw,
+    /// The slice that came last into the hand goes to a user.
+    Grant { user: u32 },
+}
+
+/// The free slices, the slices in hand, and the tenant of the one user that there is as yet.
+///
+/// All room for slices is reserved when the core is made. So an event that isn't a request takes no memory, and a few steps.
+#[derive(Drop)]
+pub struct Core {
+    shape: Shape,
+    slices: Slices,
+    tenant: Tenant,
+    /// The room in which the tenants are handed back.
+    ended: Vec<Tenant>,
+    /// Whether the last event was the tenant's.
+    is_own: bool,
+    /// The moves of an event that isn't a tenant's.
+    no_moves: Moves,
+}
+
+impl Model for Core {
+    ghost use Rattle.far_core.specs.Cores.{CoreView};
+    ghost use Rattle.far_core.specs.Inside.{IsWell, view_of};
+
+    ghost Value = { CoreView };
+
+    ghost view = { view_of };
+
+    ghost invariant = { IsWell };
+}
+
+impl Core {
+    ghost use Rattle.far_core.specs.Runs.{CoreEntry, IsLegalFor};
+    ghost use Rattle.far_core.specs.Cores.{StandsForRun, core_entry, draw_of, Serves, Gives};
+
+    /// A core whose slices are all in the pool, under number 0, and whose user has no name.
+    pub fn new(alloc: Global, shape: Shape) -> Result<Core, AllocError>
+        requires within { IsStore shape }
+        requires one_user { shape.users ≡ 1 }
+        ensures shape { IfOk result (λ core. core.shape ≡ shape) }
+        ensures stands { IfOk result (λ core. StandsForRun core []) }
+    {
+        let no_moves = Moves::new(alloc, 0)?;
+        let tenant = Tenant::new(alloc, 0, shape)?;
+        let ended = Vec::with_capacity(alloc, 1)?;
+        let count = u64::from(shape.users) * shape.share.fair;
+        let slices = Slices::new(alloc, count as u32, shape.slice)?;
+        Ok(Core {
+            shape,
+            slices,
+            tenant,
+            ended,
+            is_own: false,
+            no_moves,
+        })
+    }
+
+    /// One event. The run that the core stands for grows by its entry, whatever the event is answered.
+    pub fn step(&mut self, event: CoreEvent) -> Outcome
+        ensures shape { self.new.shape ≡ self.old.shape }
+        ensures stands { (run : List CoreEntry) → StandsForRun self.old run → StandsForRun self.new (run ++ core_entry event result self.new ∷ []) }
+
+        // Each user's own events, taken alone, are a legal history in order.
+        ensures each_user { (run : List CoreEntry) → StandsForRun self.old run → (user : ℕ) → user < self.old.shape.users
+            → IsLegalFor self.old.shape (run ++ core_entry event result self.new ∷ []) user }
+    {
+        self.is_own = false;
+        self.answer(event)
+    }
+
+    /// The moves of the last event. An event that isn't a tenant's has none.
+    pub fn moves(&self) -> &Moves
+        ensures { result.now ≡ self.now.moves }
+    {
+        if self.is_own {
+            self.tenant.moves()
+        } else {
+            &self.no_moves
+        }
+    }
+
+    /// How many slices are in hand.
+    pub fn hand(&self) -> u32
+        ensures { result ≡ length self.now.hand }
+    {
+        self.slices.hand.len() as u32
+    }
+
+    /// Ends the core, and gives its tenants in the order of their users. The slices of pool and hand are given up. It takes no memory.
+    pub fn finish(self) -> Vec<Tenant>
+        ensures { result.items ≡ self.tenant ∷ [] }
+    {
+        let Core {
+            shape: _,
+            slices: _,
+            tenant,
+            mut ended,
+            is_own: _,
+            no_moves: _,
+        } = self;
+        ended.push_reserved(tenant);
+        ended
+    }
+
+    /// One event, after the moves of the one before were forgotten.
+    fn answer(&mut self, event: CoreEvent) -> Outcome
+        requires { self.old.moves ≡ no_moves 0 }
+        ensures shape { self.new.shape ≡ self.old.shape }
+        ensures stands { (run : List CoreEntry) → StandsForRun self.old run → StandsForRun self.new (run ++ core_entry event result self.new ∷ []) }
+    {
+        match event {
+            CoreEvent::Ask { user, request } => {
+                if user >= self.shape.users {
+                    return self.absent_user();
+                }
+                self.ask(request)
+            }
+            CoreEvent::Draw => self.draw(),
+            CoreEvent::Grant { user } => {
+                if user >= self.shape.users {
+                    return self.absent_user();
+                }
+                self.grant()
+            }
+        }
+    }
+
+    /// What an event of a user that there isn't is answered.
+    fn absent_user(&self) -> Outcome
+        ensures { result ≡ Outcome.Reply (Reply.AbsentUser self.now.shape.users) }
+    {
+        Outcome::Reply(Reply::AbsentUser {
+            users: self.shape.users,
+        })
+    }
+
+    /// A request of the user.
+    fn ask(&mut self, request: Request) -> Outcome
+        ensures serves { Serves self.old (Ask 0 request) result self.new }
+        ensures rest { self.new ≡ record self.old { tenant = self.new.tenant; moves = self.new.moves } }
+    {
+        self.is_own = true;
+        let ask = TenantAsk::Ask { moment: 0, request };
+        let Told { outcome, slice } = self.tenant.apply(ask);
+        match slice {
+            None => outcome,
+            Some(_other) => unreachable!(),
+        }
+    }
+
+    /// The slice that came last into the hand goes to the user. One that the tenant hands back stays in the hand.
+    fn grant(&mut self) -> Outcome
+        ensures shape { self.new.shape ≡ self.old.shape }
+        ensures empty { self.old.hand ≡ [] → result ≡ Outcome.HandEmpty }
+        ensures kept { self.old.hand ≡ [] → self.new ≡ self.old }
+        ensures given { (slice : SliceView) (hand : List SliceView) → self.old.hand ≡ slice ∷ hand → Gives self.old slice hand result self.new }
+    {
+        let Some(slice) = self.slices.hand.pop() else {
+            return Outcome::HandEmpty;
+        };
+        self.is_own = true;
+        let Told { outcome, slice } = self.tenant.apply(TenantAsk::Grant(slice));
+        if let Some(slice) = slice {
+            self.slices.hand.push_reserved(slice);
+        }
+        outcome
+    }
+
+    /// The pool's lowest slice comes into the hand.
+    fn draw(&mut self) -> Outcome
+        ensures { (self.new, result) ≡ draw_of self.old self.old.pool }
+    {
+        let Some(slice) = self.slices.pool.pop() else {
+            return Outcome::PoolEmpty;
+        };
+        let outcome = Outcome::Slice {
+            slice: slice.id(),
+            number: slice.number(),
+        };
+        self.slices.hand.push_reserved(slice);
+        outcome
+    }
+}

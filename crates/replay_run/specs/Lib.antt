@@ -1,0 +1,4 @@
+pub mod Trace
+pub mod Steps
+pub mod Replays
+pub mod Ends

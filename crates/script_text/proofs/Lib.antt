@@ -1,0 +1,5 @@
+pub mod Joined
+pub mod Asked
+pub mod LineWords
+pub mod Ordered
+pub mod Sent

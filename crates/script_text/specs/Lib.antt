@@ -1,0 +1,6 @@
+pub mod Words
+pub mod Verbs
+pub mod Lines
+pub mod Fields
+pub mod Outcomes
+pub mod Moves

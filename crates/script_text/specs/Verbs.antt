@@ -1,0 +1,10 @@
+-- The word of each request.
+use Rattle.std.specs.Prelude.{ℕ, List, codes}
+use Rattle.script_text.specs.declared.verb.Verb.{Verb}
+use Rattle.script_text.specs.declared.verb.Verb.TheVariants.{Make, Append, Read, Length}
+
+abbrev pub verb_word : Verb → List ℕ
+verb_word Make = codes "make"
+verb_word Append = codes "append"
+verb_word Read = codes "read"
+verb_word Length = codes "length"

@@ -1,0 +1,70 @@
+//! The fields of a line, word by word.
+
+ghost use Rattle.std.specs.Prelude.{◌≡◌, ◌≢◌, ℕ, ◌≤◌, List, [], ◌∷◌, decimal, IsTrue, IfSome, IfNone, IfOk};
+ghost use Rattle.std.specs.Option.{option_copied};
+ghost use Rattle.far_io.specs.Words.{words_after};
+ghost use Rattle.far_io.specs.Escapes.{escaped, AreBytes};
+ghost use Rattle.far_words.specs.Paths;
+ghost use Rattle.script_text.specs.Lines.{kind_word};
+
+use crate::verb::is_word;
+use far_io::{next_number, parse_escaped, split_word};
+use far_words::{Blob, Kind, Path};
+use std::alloc::{AllocError, Global};
+
+/// The path that the first of these words is, and the words after it.
+pub fn next_path(words: Option<&[u8]>) -> Option<(Path, Option<&[u8]>)>
+    ensures path { IfSome result (λ found. words_after (option_copied words.entry) ≡ found.0 ∷ words_after (option_copied found.1)) }
+    ensures grammar { IfSome result (λ found. IsTrue (Paths.is_path found.0)) }
+    ensures nothing { IfNone result ((path : List ℕ) → IsTrue (Paths.is_path path) → (others : List (List ℕ)) → words_after (option_copied words.entry) ≢ path ∷ others) }
+{
+    let (word, others) = split_word(words?);
+    match Path::parse(word) {
+        Some(path) => Some((path, others)),
+        None => None,
+    }
+}
+
+/// The kind whose word is the first of these, and the words after it.
+pub fn next_kind(words: Option<&[u8]>) -> Option<(Kind, Option<&[u8]>)>
+    ensures kind { IfSome result (λ found. words_after (option_copied words.entry) ≡ kind_word found.0 ∷ words_after (option_copied found.1)) }
+    ensures nothing { IfNone result ((kind : Kind) (others : List (List ℕ)) → words_after (option_copied words.entry) ≢ kind_word kind ∷ others) }
+{
+    let (word, others) = split_word(words?);
+    if !is_word(word, b"file") {
+        return None;
+    }
+    Some((Kind::File, others))
+}
+
+/// The number that the one word which is left spells, where it is a decimal of at most `limit`.
+pub fn last_number(words: Option<&[u8]>, limit: u64) -> Option<u64>
+    ensures number { IfSome result (λ number. words_after (option_copied words.entry) ≡ decimal number ∷ []) }
+    ensures within { IfSome result (λ number. number ≤ limit) }
+    ensures nothing { IfNone result ((number : ℕ) → number ≤ limit → words_after (option_copied words.entry) ≢ decimal number ∷ []) }
+{
+    let (number, others) = next_number(words, limit)?;
+    if others.is_some() {
+        return None;
+    }
+    Some(number)
+}
+
+/// The bytes for which the one word that is left stands.
+pub fn last_bytes(alloc: Global, words: Option<&[u8]>) -> Result<Option<Blob>, AllocError>
+    ensures bytes { IfOk result (λ found. IfSome found (λ bytes. words_after (option_copied words.entry) ≡ escaped bytes ∷ [])) }
+    ensures within { IfOk result (λ found. IfSome found (λ bytes. AreBytes bytes)) }
+    ensures nothing { IfOk result (λ found. IfNone found ((bytes : List ℕ) → AreBytes bytes → words_after (option_copied words.entry) ≢ escaped bytes ∷ [])) }
+{
+    let Some(words) = words else {
+        return Ok(None);
+    };
+    let (word, others) = split_word(words);
+    if others.is_some() {
+        return Ok(None);
+    }
+    match parse_escaped(alloc, word)? {
+        Some(bytes) => Ok(Some(Blob::from(bytes.into_vec()))),
+        None => Ok(None),
+    }
+}

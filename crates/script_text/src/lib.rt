@@ -1,0 +1,16 @@
+//! The text of a script's lines, of outcomes and of moves. `docs/FORMATS.md` has the grammar.
+#![tactic(auto)]
+
+mod fields;
+mod line;
+mod moves;
+mod outcome;
+mod request;
+mod rows;
+#[cfg(test)]
+mod tests;
+mod verb;
+
+pub use line::{ScriptLine, parse_line};
+pub use moves::write_moves;
+pub use outcome::write_outcome;

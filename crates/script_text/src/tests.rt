@@ -1,0 +1,193 @@
+use crate::{ScriptLine, parse_line, write_moves, write_outcome};
+use far_io::{MemSink, WriteFault};
+use far_words::{Blob, Kind, Moves, Outcome, Path, PlacedRow, Reply, Request};
+use std::test::Fail;
+
+fn path(text: &[u8]) -> Result<Path, Fail> {
+    Ok(Path::parse(text).ok_or("no path")?)
+}
+
+fn line(rt: &HostRuntime, text: &[u8]) -> Result<ScriptLine, Fail> {
+    Ok(parse_line(rt.alloc(), text)?.ok_or("no line")?)
+}
+
+#[test]
+fn lines_within_the_grammar(rt: HostRuntime) -> Result<(), Fail> {
+    assert_eq!(rt; line(&rt, b"draw")?, ScriptLine::Draw);
+    assert_eq!(rt;
+        line(&rt, b"grant 4294967295")?,
+        ScriptLine::Grant { user: u32::MAX }
+    );
+    let request = Request::Make {
+        path: path(b"f")?,
+        kind: Kind::File,
+        span: 100,
+    };
+    assert_eq!(rt;
+        line(&rt, b"make 0 f file 100")?,
+        ScriptLine::Ask { user: 0, request }
+    );
+    let request = Request::Read {
+        path: path(b"job/in")?,
+        from: u64::MAX,
+        len: u32::MAX,
+    };
+    assert_eq!(rt;
+        line(&rt, b"read 7 job/in 18446744073709551615 4294967295")?,
+        ScriptLine::Ask { user: 7, request }
+    );
+    let request = Request::Length { path: path(b"f")? };
+    assert_eq!(rt;
+        line(&rt, b"length 0 f")?,
+        ScriptLine::Ask { user: 0, request }
+    );
+    Ok(())
+}
+
+#[test]
+fn appended_bytes_are_escaped(rt: HostRuntime) -> Result<(), Fail> {
+    let table: [(&[u8], &[u8]); 3] = [
+        (b"append 1 f %", b""),
+        (b"append 1 f a%20b%0A", b"a b\n"),
+        (b"append 1 f %25", b"%"),
+    ];
+    for (text, bytes) in table {
+        let request = Request::Append {
+            path: path(b"f")?,
+            bytes: Blob::from_slice(rt.alloc(), bytes)?,
+        };
+        assert_eq!(rt; line(&rt, text)?, ScriptLine::Ask { user: 1, request });
+    }
+    Ok(())
+}
+
+#[test]
+fn lines_outside_the_grammar(rt: HostRuntime) -> Result<(), Fail> {
+    let table: [&[u8]; 36] = [
+        b"",
+        b" ",
+        b" draw",
+        b"draw ",
+        b"draw 0",
+        b"Draw",
+        b"grant",
+        b"grant  0",
+        b"grant 00",
+        b"grant 0 ",
+        b"grant 4294967296",
+        b"make 0 f file",
+        b"make 0 f dir 1",
+        b"make 0 f File 1",
+        b"make 0 f file 1 2",
+        b"make 0 f file 01",
+        b"make 0 f file 18446744073709551616",
+        b"make 0 /f file 1",
+        b"append 0 f",
+        b"append 0 f ",
+        b"append 0 f a b",
+        b"append 0 f %0a",
+        b"append 0 f %41",
+        b"append 0 f %%",
+        b"append 0 f a%2",
+        b"append 0  f a",
+        b"append 4294967296 f a",
+        b"read 0 f 0",
+        b"read 0 f 0 01",
+        b"read 0 f 0 4294967296",
+        b"read 0 f 0 1 2",
+        b"length 0",
+        b"length 0 f ",
+        b"length 0 f\n",
+        b"park 0 f",
+        b"now 5",
+    ];
+    for text in table {
+        assert_eq!(rt; parse_line(rt.alloc(), text)?, None);
+    }
+    Ok(())
+}
+
+fn written(rt: &HostRuntime, outcome: Outcome) -> Result<MemSink, Fail> {
+    let mut sink = MemSink::new(rt.alloc(), Vec::new(rt.alloc()));
+    write_outcome(&outcome, &mut sink)?;
+    Ok(sink)
+}
+
+#[test]
+fn outcome_lines(rt: HostRuntime) -> Result<(), Fail> {
+    let bytes = Blob::from_slice(rt.alloc(), b"b %")?;
+    let table = vec![in rt.alloc();
+        (Outcome::Reply(Reply::Done), b"done\n".as_slice()),
+        (
+            Outcome::Reply(Reply::Number(129)),
+            b"number 129\n".as_slice()
+        ),
+        (
+            Outcome::Reply(Reply::Bytes(bytes)),
+            b"bytes b%20%25\n".as_slice()
+        ),
+        (
+            Outcome::Reply(Reply::TooLong { limit: 65536 }),
+            b"toolong 65536\n".as_slice()
+        ),
+        (
+            Outcome::Reply(Reply::Exhausted {
+                need: 1,
+                used: 2,
+                granted: 3
+            }),
+            b"exhausted 1 2 3\n".as_slice(),
+        ),
+        (
+            Outcome::Reply(Reply::AbsentUser { users: 1 }),
+            b"absentuser 1\n".as_slice()
+        ),
+        (
+            Outcome::Slice {
+                slice: 2,
+                number: 0
+            },
+            b"slice 2 0\n".as_slice()
+        ),
+        (
+            Outcome::Granted {
+                slice: 2,
+                number: 1
+            },
+            b"granted 2 1\n".as_slice()
+        ),
+        (Outcome::PoolEmpty, b"poolempty\n".as_slice()),
+    ]?;
+    for (outcome, text) in table {
+        assert_eq!(rt; written(&rt, outcome)?.bytes(), text);
+    }
+    Ok(())
+}
+
+fn row(slice: u32, index: u64) -> Result<PlacedRow, Fail> {
+    Ok(PlacedRow {
+        slice,
+        number: 2,
+        path: path(b"f")?,
+        index,
+    })
+}
+
+#[test]
+fn moves_are_in_order_of_slices(rt: HostRuntime) -> Result<(), Fail> {
+    let mut moves = Moves::new(rt.alloc(), 2)?;
+    moves.push_freed(3, 7);
+    moves.push_freed(0, 2);
+    moves.push_placed(row(2, 2)?)?;
+    moves.push_placed(row(1, 1)?)?;
+    let mut sink = MemSink::new(rt.alloc(), Vec::new(rt.alloc()));
+    write_moves(&moves, &mut sink)?;
+    assert_eq!(rt;
+        sink.bytes(),
+        b"- 0 2\n- 3 7\n+ 1 2 f 1\n+ 2 2 f 2\n".as_slice()
+    );
+
+    let mut failing = MemSink::new(rt.alloc(), Vec::from_slice(rt.alloc(), &[0u64])?);
+    assert_eq!(rt; write_moves(&moves, &mut failing), Err(WriteFault));
+    Ok(())
+}

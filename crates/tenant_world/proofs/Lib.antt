@@ -1,0 +1,14 @@
+pub mod Counted
+pub mod Numbers
+pub mod Around
+pub mod Placing
+pub mod Spots
+pub mod Held
+pub mod Grown
+pub mod Appended
+pub mod Written
+pub mod Served
+pub mod Kept
+pub mod Asking
+pub mod Appending
+pub mod Putting

@@ -1,0 +1,55 @@
+use Rattle.std.proofs.Common.{◌≤◌, ℕ, List, BTreeMap, arith, refl, ap, sym, subst, ◌∙◌}
+use Rattle.far_words.specs.declared.path.Path.{Path}
+use Rattle.block_home.specs.Homes.{HomeView, granted_of}
+use Rattle.tenant_world.specs.declared.names.Named.{Named}
+use Rattle.tenant_world.specs.Views.{TenantView, told_state}
+use Rattle.tenant_world.specs.Well.{AreKept}
+use Rattle.tenant_world.proofs.Kept.{sound_found}
+use Rattle.tenant_world.proofs.Served.{still_in}
+use Rattle.tenant_world.proofs.Asking.{append_nowhere}
+use Rattle.tenant_world.proofs.Putting.{append_stands, append_serves, room_noted}
+use Rattle.tenant_world.proofs.tenant.Tenant.append.Goals as goal
+
+pub returns-in_default-clause-served : goal.returns-in_default-clause-served
+returns-in_default-clause-served c =
+    let i = c.self.inside in
+    let was = ap (λ (v : TenantView). v.state) c.self.view_is in
+    let same = ap (λ (names : BTreeMap Path Named). told_state i.moment names.entries i.home) c.get_mut.follows.holds-at-none ∙ was in
+    append_nowhere i.moment i.names.entries i.home c.self.invariant.kept c.args.self.now (sym was) _ (still_in i c.self.view_is c.requires) same c.args.path.now c.args.bytes.now (omega arith) (sym c.in_default.ensures.value)
+
+pub append_content-requires-clause-sound : goal.append_content-requires-clause-sound
+append_content-requires-clause-sound c =
+    let i = c.self.inside in
+    sound_found i.names.entries i.home c.args.path.now c.in-Some.named.now c.self.invariant.kept (sym c.in-Some.ensures.value)
+
+pub append_content-requires-clause-noted : goal.append_content-requires-clause-noted
+append_content-requires-clause-noted c = room_noted c.self.inside.home c.self.invariant.within c.self.invariant.most
+
+pub invariant_of-self-2 : goal.invariant_of-self-2
+invariant_of-self-2 c =
+    let i = c.self.inside in
+    let home : HomeView = c.append_content.new.home in
+    let longer : Named = record { lease = c.in-Some.named.now.lease; content = c.append_content.new.content } in
+    let s = append_stands i.names.entries i.home home c.args.path.now c.args.bytes.now c.in-Some.named.now c.append_content.new.content i.moves c.append_content.new.moves
+    (sym c.in-Some.ensures.value) c.get_mut.ensures.ordered c.self.invariant.kept (room_noted i.home c.self.invariant.within c.self.invariant.most) c.append_content.result c.append_content.ensures in
+    record {
+      within = subst (λ n. n ≤ home.slices) (sym s.granted_is) (subst (λ n. granted_of i.home ≤ n) (sym s.slices) c.self.invariant.within);
+      most = s.most ∙ c.self.invariant.most ∙ sym s.slices;
+      kept = subst (λ (es : List (List ℕ × Named)). AreKept es home) (sym (c.get_mut.follows.holds longer).0) s.kept;
+    }
+
+pub returns-clause-held : goal.returns-clause-held
+returns-clause-held c =
+    let i = c.self.inside in
+    let s = append_stands i.names.entries i.home c.append_content.new.home c.args.path.now c.args.bytes.now c.in-Some.named.now c.append_content.new.content i.moves c.append_content.new.moves
+    (sym c.in-Some.ensures.value) c.get_mut.ensures.ordered c.self.invariant.kept (room_noted i.home c.self.invariant.within c.self.invariant.most) c.append_content.result c.append_content.ensures in
+    s.granted_is ∙ ap (λ (v : TenantView). v.held) c.self.view_is
+
+pub returns-clause-served : goal.returns-clause-served
+returns-clause-served c =
+    let i = c.self.inside in
+    let longer : Named = record { lease = c.in-Some.named.now.lease; content = c.append_content.new.content } in
+    append_serves i.names.entries i.home c.append_content.new.home c.args.path.now c.args.bytes.now c.in-Some.named.now c.append_content.new.content i.moves c.append_content.new.moves
+    (sym c.in-Some.ensures.value) c.get_mut.ensures.ordered c.self.invariant.kept (room_noted i.home c.self.invariant.within c.self.invariant.most)
+    i.moment c.args.self.now (sym (ap (λ (v : TenantView). v.state) c.self.view_is)) (sym (ap (λ (v : TenantView). v.terms.size) c.self.view_is)) (still_in i c.self.view_is c.requires) _
+    (ap (λ (es : List (List ℕ × Named)). told_state i.moment es c.append_content.new.home) (c.get_mut.follows.holds longer).0) refl (omega arith) c.append_content.result c.append_content.ensures

@@ -1,0 +1,308 @@
+//! The tenant.
+ghost use Rattle.std.specs.Prelude.{◌≡◌, ℕ, ◌*◌, ◌^◌, ◌<◌, ◌≤◌, ◌++◌, ◌∷◌, [], List, IfOk, IfSome, IsTrue, Some, None, if◌then◌else◌};
+ghost use Rattle.slice_seq.specs.Purses as Purses;
+ghost use Rattle.karma_rule.specs.Limits.{IsStore};
+ghost use Rattle.far_words.specs.Paths.{parent_of};
+ghost use Rattle.far_words.specs.declared.request.Kind.{Kind};
+ghost use Rattle.far_words.specs.declared.request.Request.TheVariants.{Make, Append, Read, Length};
+ghost use Rattle.far_history.specs.Entries.{Entry};
+ghost use Rattle.far_history.specs.Histories.{State, fits};
+ghost use Rattle.far_history.specs.Standing.{StandsFor};
+
+use crate::appends::append_content;
+use crate::names::{Content, Named, length_in, read_content};
+use block_file::FileBody;
+use block_home::Home;
+use far_words::{Kind, Moves, Outcome, Path, Reply, Request};
+use karma_rule::Shape;
+use slice_seq::Slice;
+use std::alloc::{AllocError, Global};
+use std::collections::BTreeMap;
+use std::marker::Model;
+
+/// The most bytes that a request appends or reads.
+const MOST_IN_REQUEST: u64 = 65_536;
+
+/// What comes to a tenant.
+pub enum TenantAsk {
+    /// A request of the user, at a moment.
+    Ask { moment: u64, request: Request },
+    /// A slice for the user to hold.
+    Grant(Slice),
+}
+
+/// What a tenant answers. A slice that it doesn't take in is handed back as it came.
+pub struct Told {
+    pub outcome: Outcome,
+    pub slice: Option<Slice>,
+}
+
+/// One user's names, leases and contents, and the slices that keep the contents.
+///
+/// Dropping it gives the memory of its slices back.
+#[derive(Drop)]
+pub struct Tenant {
+    alloc: Global,
+    moment: u64,
+    names: BTreeMap<Path, Named>,
+    home: Home,
+    moves: Moves,
+}
+
+impl Model for Tenant {
+    ghost use Rattle.tenant_world.specs.Views.{TenantView};
+
+    ghost Value = { TenantView };
+
+    ghost use Rattle.tenant_world.specs.Well.{IsWell, view_of};
+
+    ghost view = { view_of };
+
+    ghost invariant = { IsWell };
+}
+
+/// A slice that isn't taken in.
+fn handed_back(slice: Slice) -> Told
+    ensures slice { result.slice ≡ Some slice }
+    ensures outcome { result.outcome ≡ Outcome.Granted slice.id slice.number }
+{
+    Told {
+        outcome: Outcome::Granted {
+            slice: slice.id(),
+            number: slice.number(),
+        },
+        slice: Some(slice),
+    }
+}
+
+/// The number of a slice after a grant.
+fn granted_number(slice: &Slice) -> u64
+    ensures number { result ≡ Purses.granted_number slice.now.number }
+    ensures limit { slice.now.number ≤ 2 ^ 63 }
+{
+    if slice.is_worn() {
+        slice.number()
+    } else {
+        slice.number() + 1
+    }
+}
+
+impl Tenant {
+    ghost use Rattle.tenant_world.specs.Views;
+    ghost use Rattle.tenant_world.specs.Views.{entry_of, event_of, hands_back, held_after, terms_of};
+    ghost use Rattle.tenant_world.specs.Serves.{IsAsked, IsGranted, IsStill, Serves};
+
+    /// No name and no slice, with room for as many slices as a user may hold.
+    pub fn new(alloc: Global, user: u32, shape: Shape) -> Result<Tenant, AllocError>
+        requires within { IsStore shape }
+        ensures user { IfOk result (λ tenant. tenant.user ≡ user) }
+        ensures terms { IfOk result (λ tenant. tenant.terms ≡ terms_of shape) }
+        ensures stands { IfOk result (λ tenant. StandsFor tenant.terms tenant.state 0 []) }
+        ensures held { IfOk result (λ tenant. tenant.held ≡ 0) }
+    {
+        let slices = u64::from(shape.users) * shape.share.fair;
+        let home = Home::new(alloc, user, shape.slice, slices as u32)?;
+        Ok(Tenant {
+            alloc,
+            moment: 0,
+            names: BTreeMap::new(alloc),
+            home,
+            moves: Moves::new(alloc, slices as usize)?,
+        })
+    }
+
+    /// One event. The history that the tenant stands for grows by its entry, whatever the event is answered.
+    ///
+    /// So each answer is the one that plain names and contents give, or is excused, and after a refusal names, leases and contents are
+    /// as before.
+    pub fn apply(&mut self, ask: TenantAsk) -> Told
+        ensures user { self.new.user ≡ self.old.user }
+        ensures terms { self.new.terms ≡ self.old.terms }
+        ensures stands { (h : List Entry) → StandsFor self.old.terms self.old.state 0 h
+            → StandsFor self.new.terms self.new.state 0 (h ++ entry_of ask result self.new ∷ []) }
+
+        // A slice is handed back where it is of another size, or where every slice of the terms is held, and never where it fits.
+        ensures slice { result.slice ≡ Views.handed_back self.old ask }
+        ensures back { IfSome result.slice (λ slice. result.outcome ≡ Outcome.Granted slice.id slice.number) }
+        ensures fitting { (s : State) → self.old.state ≡ Some s → IsTrue (fits self.old.terms s (event_of ask)) → result.slice ≡ None }
+        ensures held { self.new.held ≡ held_after self.old ask }
+    {
+        self.moves.clear();
+        match ask {
+            TenantAsk::Ask { moment, request } => Told {
+                outcome: Outcome::Reply(self.ask(moment, request)),
+                slice: None,
+            },
+            TenantAsk::Grant(slice) => self.grant(slice),
+        }
+    }
+
+    /// The moves of the last event.
+    pub fn moves(&self) -> &Moves
+        ensures { result.now ≡ self.now.moves }
+    {
+        &self.moves
+    }
+
+    /// How many slices are held.
+    pub fn held(&self) -> u32
+        ensures held { result ≡ self.now.held }
+        ensures granted { (s : State) → self.now.state ≡ Some s → result ≡ Purses.granted s.purse }
+    {
+        self.home.granted()
+    }
+
+    /// Takes a slice in, or hands it back.
+    fn grant(&mut self, slice: Slice) -> Told
+        requires { IsStill self.old.moves }
+        ensures step { IsGranted self.old slice result.outcome self.new }
+        ensures user { self.new.user ≡ self.old.user }
+        ensures terms { self.new.terms ≡ self.old.terms }
+        ensures slice { result.slice ≡ (if hands_back self.old slice then Some slice else None) }
+        ensures back { IfSome result.slice (λ slice. result.outcome ≡ Outcome.Granted slice.id slice.number) }
+        ensures fitting { (s : State) → self.old.state ≡ Some s → IsTrue (fits self.old.terms s (event_of (TenantAsk.Grant slice))) → result.slice ≡ None }
+        ensures held { self.new.held ≡ held_after self.old (TenantAsk.Grant slice) }
+    {
+        if slice.size() != self.home.size() {
+            return handed_back(slice);
+        }
+        if self.home.is_full() {
+            return handed_back(slice);
+        }
+        let id = slice.id();
+        let number = granted_number(&slice);
+        self.home.grant(slice);
+        Told {
+            outcome: Outcome::Granted { slice: id, number },
+            slice: None,
+        }
+    }
+
+    /// A request at a moment.
+    fn ask(&mut self, moment: u64, request: Request) -> Reply
+        requires { IsStill self.old.moves }
+        ensures step { IsAsked self.old moment request result self.new }
+        ensures user { self.new.user ≡ self.old.user }
+        ensures terms { self.new.terms ≡ self.old.terms }
+        ensures held { self.new.held ≡ self.old.held }
+    {
+        self.moment = self.moment.max(moment);
+        self.serve(request)
+    }
+
+    fn serve(&mut self, request: Request) -> Reply
+        requires { IsStill self.old.moves }
+        ensures served { Serves self.old request result self.new }
+        ensures user { self.new.user ≡ self.old.user }
+        ensures terms { self.new.terms ≡ self.old.terms }
+        ensures held { self.new.held ≡ self.old.held }
+    {
+        match request {
+            Request::Make { path, kind, span } => self.make(path, kind, span),
+            Request::Append { path, bytes } => self.append(&path, bytes.items()),
+            Request::Read { path, from, len } => self.read(&path, from, len),
+            Request::Length { path } => self.length(&path),
+        }
+    }
+
+    /// A name is made at the top: under another name there is no place for it, as long as no name is a directory.
+    fn make(&mut self, path: Path, kind: Kind, span: u64) -> Reply
+        requires { IsStill self.old.moves }
+        ensures served { Serves self.old (Make path kind span) result self.new }
+        ensures user { self.new.user ≡ self.old.user }
+        ensures terms { self.new.terms ≡ self.old.terms }
+        ensures held { self.new.held ≡ self.old.held }
+    {
+        match path.parent() {
+            Some(parent) => self.refuse_under(&parent),
+            None => self.make_top(path, kind, span),
+        }
+    }
+
+    fn refuse_under(&self, parent: &Path) -> Reply
+        requires { IsStill self.now.moves }
+        ensures { (path : List ℕ) (kind : Kind) (span : ℕ) → parent_of path ≡ Some parent.now → Serves self.now (Make path kind span) result self.now }
+    {
+        match self.names.get(parent) {
+            Some(_) => Reply::WrongKind,
+            None => Reply::Absent,
+        }
+    }
+
+    fn make_top(&mut self, path: Path, kind: Kind, span: u64) -> Reply
+        requires still { IsStill self.old.moves }
+        requires top { parent_of path ≡ None }
+        ensures served { Serves self.old (Make path kind span) result self.new }
+        ensures user { self.new.user ≡ self.old.user }
+        ensures terms { self.new.terms ≡ self.old.terms }
+        ensures held { self.new.held ≡ self.old.held }
+    {
+        if self.names.contains_key(&path) {
+            return Reply::Exists;
+        }
+        let lease = self.moment.saturating_add(span);
+        let content = match kind {
+            Kind::File => Content::File(FileBody::new(self.alloc)),
+        };
+        match self.names.insert(path, Named { lease, content }) {
+            Ok(_) => Reply::Done,
+            Err(_) => Reply::NoMemory,
+        }
+    }
+
+    fn append(&mut self, path: &Path, bytes: &[u8]) -> Reply
+        requires { IsStill self.old.moves }
+        ensures served { Serves self.old (Append path.now bytes.now) result self.new }
+        ensures user { self.new.user ≡ self.old.user }
+        ensures terms { self.new.terms ≡ self.old.terms }
+        ensures held { self.new.held ≡ self.old.held }
+    {
+        if bytes.len() as u64 > MOST_IN_REQUEST {
+            return Reply::TooLong {
+                limit: MOST_IN_REQUEST,
+            };
+        }
+        let Some(named) = self.names.get_mut(path) else {
+            return Reply::Absent;
+        };
+        append_content(
+            self.alloc,
+            &mut named.content,
+            &mut self.home,
+            &mut self.moves,
+            path,
+            bytes,
+        )
+    }
+
+    fn read(&mut self, path: &Path, from: u64, len: u32) -> Reply
+        requires { IsStill self.old.moves }
+        ensures served { Serves self.old (Read path.now from len) result self.new }
+        ensures user { self.new.user ≡ self.old.user }
+        ensures terms { self.new.terms ≡ self.old.terms }
+        ensures held { self.new.held ≡ self.old.held }
+    {
+        if u64::from(len) > MOST_IN_REQUEST {
+            return Reply::TooLong {
+                limit: MOST_IN_REQUEST,
+            };
+        }
+        let Some(named) = self.names.get_mut(path) else {
+            return Reply::Absent;
+        };
+        match read_content(self.alloc, &mut named.content, &mut self.home, from, len) {
+            Ok(bytes) => Reply::Bytes(bytes),
+            Err(_) => Reply::NoMemory,
+        }
+    }
+
+    fn length(&self, path: &Path) -> Reply
+        requires { IsStill self.now.moves }
+        ensures { Serves self.now (Length path.now) result self.now }
+    {
+        let Some(named) = self.names.get(path) else {
+            return Reply::Absent;
+        };
+        Reply::Number(length_in(&named.content))
+    }
+}

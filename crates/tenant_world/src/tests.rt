@@ -1,0 +1,214 @@
+ghost use Rattle.std.specs.Prelude.{◌≤◌, ◌<◌, ◌^◌};
+
+use super::{Tenant, TenantAsk, Told};
+use far_history::PlainWorld;
+use far_words::{Blob, Kind, Outcome, Path, PlacedRow, Reply, Request};
+use karma_rule::Shape;
+use slice_seq::Slice;
+use std::alloc::Global;
+use std::process::Abort;
+
+/// A tenant of one user that may hold `fair` slices of 64 bytes.
+fn tenant(rt: &impl Abort, alloc: Global, fair: u64) -> Tenant {
+    let Ok(shape) = Shape::store(1, fair, fair, 0, 64) else {
+        panic!(rt; "a shape")
+    };
+    Tenant::new(alloc, 0, shape).expect(rt, "memory for a tenant")
+}
+
+/// Grants a slice, compares its number, and says whether it was handed back.
+fn grant(
+    rt: &impl Abort,
+    alloc: Global,
+    tenant: &mut Tenant,
+    id: u32,
+    size: u32,
+    number: u64,
+) -> bool {
+    let slice = Slice::fresh(alloc, id, size, 0).expect(rt, "memory for a slice");
+    let Told { outcome, slice } = tenant.apply(TenantAsk::Grant(slice));
+    assert_eq!(rt; outcome, Outcome::Granted { slice: id, number });
+    match slice {
+        Some(slice) => {
+            slice.free();
+            true
+        }
+        None => false,
+    }
+}
+
+fn ask(rt: &impl Abort, tenant: &mut Tenant, moment: u64, request: Request) -> Reply {
+    let Told { outcome, slice } = tenant.apply(TenantAsk::Ask { moment, request });
+    if let Some(slice) = slice {
+        slice.free();
+    }
+    match outcome {
+        Outcome::Reply(reply) => reply,
+        _ => panic!(rt; "a reply"),
+    }
+}
+
+fn path(rt: &impl Abort, text: &[u8]) -> Path {
+    Path::parse(text).expect(rt, "a path")
+}
+
+fn make(rt: &impl Abort, name: &[u8], span: u64) -> Request {
+    Request::Make {
+        path: path(rt, name),
+        kind: Kind::File,
+        span,
+    }
+}
+
+fn append(rt: &impl Abort, alloc: Global, name: &[u8], byte: u8, count: usize) -> Request {
+    let mut bytes = Blob::new(alloc);
+    bytes.resize(count, byte).expect(rt, "memory for bytes");
+    Request::Append {
+        path: path(rt, name),
+        bytes,
+    }
+}
+
+fn read(rt: &impl Abort, name: &[u8], from: u64, len: u32) -> Request {
+    Request::Read {
+        path: path(rt, name),
+        from,
+        len,
+    }
+}
+
+fn length(rt: &impl Abort, name: &[u8]) -> Request {
+    Request::Length {
+        path: path(rt, name),
+    }
+}
+
+fn row(rt: &impl Abort, slice: u32, index: u64) -> PlacedRow {
+    PlacedRow {
+        slice,
+        number: 2,
+        path: path(rt, b"f"),
+        index,
+    }
+}
+
+#[test]
+fn a_file_lies_in_slices(rt: HostRuntime) {
+    let alloc = rt.alloc();
+    let mut tenant = tenant(&rt, alloc, 4);
+    for id in 0..3 {
+        assert!(rt; !grant(&rt, alloc, &mut tenant, id, 64, 1));
+    }
+    assert!(rt; grant(&rt, alloc, &mut tenant, 3, 32, 0));
+    let reply = ask(&rt, &mut tenant, 0, make(&rt, b"f", 100));
+    assert_eq!(rt; reply, Reply::Done);
+    let reply = ask(&rt, &mut tenant, 0, append(&rt, alloc, b"f", b'a', 64));
+    assert_eq!(rt; reply, Reply::Number(64));
+    assert!(rt; tenant.moves().placed() == [row(&rt, 0, 0)].as_slice());
+    let reply = ask(&rt, &mut tenant, 0, append(&rt, alloc, b"f", b'c', 0));
+    assert_eq!(rt; reply, Reply::Number(64));
+    assert!(rt; tenant.moves().placed().is_empty());
+    let reply = ask(&rt, &mut tenant, 0, append(&rt, alloc, b"f", b'b', 65));
+    assert_eq!(rt; reply, Reply::Number(129));
+    assert!(rt; tenant.moves().placed() == [row(&rt, 1, 1), row(&rt, 2, 2)].as_slice());
+    let reply = ask(&rt, &mut tenant, 0, read(&rt, b"f", 128, 10));
+    let bytes = Blob::from_slice(alloc, b"b").expect(&rt, "memory for a byte");
+    assert_eq!(rt; reply, Reply::Bytes(bytes));
+    assert!(rt; tenant.moves().placed().is_empty());
+    let reply = ask(&rt, &mut tenant, 0, length(&rt, b"f"));
+    assert_eq!(rt; reply, Reply::Number(129));
+    let reply = ask(&rt, &mut tenant, 0, append(&rt, alloc, b"f", b'c', 64));
+    let exhausted = Reply::Exhausted {
+        need: 1,
+        used: 3,
+        granted: 3,
+    };
+    assert_eq!(rt; reply, exhausted);
+    assert_eq!(rt; tenant.held(), 3);
+}
+
+/// Appends so many bytes, and compares the reply.
+fn grow(
+    rt: &impl Abort,
+    alloc: Global,
+    tenant: &mut Tenant,
+    name: &[u8],
+    count: usize,
+    expected: Reply,
+) {
+    let reply = ask(rt, tenant, 5, append(rt, alloc, name, 7, count));
+    assert_eq!(rt; reply, expected);
+}
+
+fn exhausted(need: u64, used: u64) -> Reply {
+    Reply::Exhausted {
+        need,
+        used,
+        granted: 2,
+    }
+}
+
+/// Two slices of 64 bytes: what needs a third one is refused, and what goes into a last block isn't.
+#[test]
+fn slices_run_out(rt: HostRuntime) {
+    let alloc = rt.alloc();
+    let mut tenant = tenant(&rt, alloc, 2);
+    assert!(rt; !grant(&rt, alloc, &mut tenant, 1, 64, 1));
+    assert!(rt; !grant(&rt, alloc, &mut tenant, 0, 64, 1));
+    assert!(rt; grant(&rt, alloc, &mut tenant, 1, 64, 0));
+    let reply = ask(&rt, &mut tenant, 5, make(&rt, b"f", 9));
+    assert_eq!(rt; reply, Reply::Done);
+    let reply = ask(&rt, &mut tenant, 5, make(&rt, b"g", 9));
+    assert_eq!(rt; reply, Reply::Done);
+    grow(&rt, alloc, &mut tenant, b"f", 10, Reply::Number(10));
+    grow(&rt, alloc, &mut tenant, b"f", 54, Reply::Number(64));
+    grow(&rt, alloc, &mut tenant, b"f", 65, exhausted(2, 1));
+    grow(&rt, alloc, &mut tenant, b"f", 1, Reply::Number(65));
+    grow(&rt, alloc, &mut tenant, b"g", 129, exhausted(3, 2));
+    grow(&rt, alloc, &mut tenant, b"f", 63, Reply::Number(128));
+    grow(&rt, alloc, &mut tenant, b"f", 1, exhausted(1, 2));
+    grow(&rt, alloc, &mut tenant, b"g", 0, Reply::Number(0));
+}
+
+/// The next of a row of numbers that look random.
+fn next(seed: u64) -> u64 {
+    seed.wrapping_mul(6_364_136_223_846_793_005)
+        .wrapping_add(1_442_695_040_888_963_407)
+}
+
+/// A request that the bits of a number choose.
+fn chosen(rt: &impl Abort, alloc: Global, seed: u64) -> Request {
+    let name: &[u8] = match (seed >> 33) % 5 {
+        0 => b"a",
+        1 => b"b",
+        2 => b"c",
+        3 => b"a/b",
+        _ => b"d/e",
+    };
+    let size = (seed >> 40) % 200;
+    match (seed >> 60) % 8 {
+        0 => make(rt, name, size),
+        1 => length(rt, name),
+        2 | 3 | 4 => read(rt, name, (seed >> 50) % 1000, size as u32),
+        _ => append(rt, alloc, name, ((seed >> 52) % 250) as u8, size as usize),
+    }
+}
+
+/// A tenant with slices enough answers as plain names and contents do.
+#[test]
+fn answers_as_a_plain_world(rt: HostRuntime) {
+    let alloc = rt.alloc();
+    let mut tenant = tenant(&rt, alloc, 1000);
+    for id in 0..1000 {
+        assert!(rt; !grant(&rt, alloc, &mut tenant, id, 64, 1));
+    }
+    let mut world = PlainWorld::new(alloc);
+    let mut seed = 1;
+    for moment in 0..600 {
+        seed = next(seed);
+        let request = chosen(&rt, alloc, seed);
+        let expected = world.answer(moment, &request).expect(&rt, "memory");
+        let reply = ask(&rt, &mut tenant, moment, request);
+        assert_eq!(rt; reply, expected);
+    }
+}
