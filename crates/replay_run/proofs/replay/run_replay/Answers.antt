@@ -1,4 +1,4 @@
-use Rattle.std.proofs.Common.{sym, ◌∙◌, ap, subst, refl, lit<, inl, inr}
+use Rattle.std.proofs.Common.{Ok, sym, ◌∙◌, ap, subst, refl, lit<, inl, inr}
 use Rattle.far_io.specs.LineView.{LineView}
 use Rattle.far_core.proofs.First.{first_sound}
 use Rattle.replay_run.specs.declared.replay_end.ReplayEnd.{ReplayEnd}
@@ -72,6 +72,12 @@ returns-in-Ok-replay_lines-clause-spent g c = λ is.
     let end = c.in-Ok-replay_lines.end in
     subst (λ (e : ReplayEnd). ReplaysTo took g.O.Sink.faults c.args.sink.now c.replay_lines.new.sink c.args.shape left left_now e) (is_spent end (sym c.status-in-Ok-replay_lines.ensures ∙ is))
     (from_start (λ shape input. ReplaysTo took g.O.Sink.faults c.args.sink.now c.replay_lines.new.sink shape input left_now end) c.in-Ok.core.shape c.args.shape c.in-Ok-new.line.ahead left c.in-Ok.ensures.shape (ap (λ (v : LineView). v.ahead) c.in-Ok-new.ensures) c.in-Ok-replay_lines.ensures.ends)
+
+pub returns-in-Ok-replay_lines-clause-at_end : goal.returns-in-Ok-replay_lines-clause-at_end
+returns-in-Ok-replay_lines-clause-at_end g c = λ is. c.replay_lines.ensures.at_end (c.in-Ok-replay_lines.is ∙ ap Ok (is_done c.in-Ok-replay_lines.end (sym c.status-in-Ok-replay_lines.ensures ∙ is)))
+
+pub returns-in-Ok-replay_lines-clause-read_fault : goal.returns-in-Ok-replay_lines-clause-read_fault
+returns-in-Ok-replay_lines-clause-read_fault g c = λ is. c.replay_lines.ensures.fault (c.in-Ok-replay_lines.is ∙ ap Ok (is_fault c.in-Ok-replay_lines.end (sym c.status-in-Ok-replay_lines.ensures ∙ is)))
 
 pub returns-in-Ok-replay_lines-clause-accepts : goal.returns-in-Ok-replay_lines-clause-accepts
 returns-in-Ok-replay_lines-clause-accepts g c = λ zero bytes told. accepts _ _ _ _ _ (returns-in-Ok-replay_lines-clause-done g c zero) bytes told
