@@ -1,10 +1,10 @@
 -- Any cutting: what read_line answers is decided by the bytes that are to be read and the limit, but for a fault.
-use Rattle.std.proofs.Common.{◌≡◌, ◌≢◌, ℕ, ◌<◌, ◌≤◌, List, [], ◌∷◌, length, Option, Some, Result, Ok, Err, refl, sym, ◌∙◌, ap, arith}
+use Rattle.std.proofs.Common.{◌≡◌, ◌≢◌, ℕ, List, [], ◌∷◌, length, Option, Some, Result, Ok, Err, refl, sym, ◌∙◌, ap, arith}
 use Rattle.std.specs.Prelude.{OnOk}
 use Rattle.far_io.specs.declared.lines.LineEnd.{LineEnd}
 use Rattle.far_io.specs.declared.lines.LineEnd.TheVariants.{End, ReadFault, TooLong}
 use Rattle.far_io.specs.LineView.{LineView}
-use Rattle.far_io.specs.Lines.{line_of, after_line, lines_of, IsFirstLine}
+use Rattle.far_io.specs.Lines.{line_of, after_line, lines_of}
 use Rattle.far_io.specs.Reads.{Reads, ReadsLine, ReadsTooLong}
 use Rattle.far_io.proofs.LineLaws.{line_of_none, lines_of_none}
 

@@ -1,11 +1,12 @@
 -- Laws of parts of a buffer.
-use Rattle.std.proofs.Common.{◌≡◌, ℕ, ◌+◌, ◌-◌, ◌<◌, ◌≤◌, List, ◌++◌, length, take, drop, take-add, sym, ◌∙◌, ap, arith, Option, Result, Ok, Err}
+use Rattle.std.proofs.Common.{◌≡◌, ℕ, ◌+◌, ◌-◌, ◌≤◌, List, ◌++◌, length, take, drop, take-add, sym, ◌∙◌, ap, arith, Option, Result, Ok, Err}
 use Rattle.std.specs.Prelude.{slice_range, MatchResult}
 use Rattle.std.specs.Io.{ReadsAtMost}
+use Rattle.std.specs.List.{copy_within}
 use Rattle.far_io.specs.Left.{in_front, IsAtEnd, Takes}
 use Rattle.far_io.specs.Gains.{Gains}
 use Rattle.far_io.proofs.Left.{in_front_of}
-use Rattle.std.proofs.lemmas.List.{take-take, drop-take, drop-drop, drop-append-le, length-take, length-drop}
+use Rattle.std.proofs.lemmas.List.{take-take, drop-take, drop-drop, drop-append-le, length-take, length-drop, take_at}
 use Rattle.std.proofs.lemmas.Slice.{between_is, between-put_mid, between_from_start}
 use borrow.Rule.Slice.PartMut.{put_mid}
 
@@ -74,3 +75,12 @@ gains_piece old new from to count before now same order fits bytes end =
       same = ap (λ ahead. in_front ahead now) grows ∙ sym (in_front_of part piece now) ∙ ap (in_front part) (sym bytes);
       end = end;
     }
+
+-- what stays at the front, where the first bytes of a part are let go
+pub front_left : (items held moved : List ℕ) (len count : ℕ) → take len items ≡ held → len ≤ length items → count ≤ length held → moved ≡ copy_within items count len 0
+    → take (len - count) moved ≡ drop count held
+front_left items held moved len count held_is fits few moved_is =
+    let short : count ≤ len = omega (arith, ap length held_is, length-take len items) in
+    ap (take (len - count)) moved_is
+    ∙ take_at (take (len - count) (drop count items)) (drop (0 + (len - count)) items) (len - count) (omega (arith, length-take (len - count) (drop count items), length-drop count items))
+    ∙ between_is items count len ∙ ap (drop count) held_is

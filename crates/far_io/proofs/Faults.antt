@@ -51,3 +51,12 @@ failed_after a b c result before follows rose = record {
   follows = follows_on a b c before follows;
   failed = on_error result (rose_before a b c before rose);
 }
+
+-- a call after others that met no fault
+pub cause_after : {U F : Type 0} (a b c : Faults) (result : Result U F) → Follows a b → HasCause b c result → HasCause a c result
+cause_after a b c (Ok x) before cause = record { follows = follows_on a b c before cause.follows; failed = tt }
+cause_after a b c (Err x) before cause = record { follows = follows_on a b c before cause.follows; failed = rose_before a b c before cause.failed }
+
+-- the same fault, in whatever result it is answered
+pub cause_of : {T E U F : Type 0} (a b : Faults) (error : E) (result : Result U F) → HasCause {T = T} a b (Err error) → HasCause a b result
+cause_of a b error result cause = record { follows = cause.follows; failed = on_error result cause.failed }

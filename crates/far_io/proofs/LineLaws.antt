@@ -1,9 +1,10 @@
 -- Laws of lines.
-use Rattle.std.proofs.Common.{◌≡◌, ◌≢◌, ℕ, ◌+◌, ◌<◌, ◌≤◌, eqb, List, [], ◌∷◌, ◌++◌, length, take, drop, get_or, zero, suc, refl, sym, ◌∙◌, ap, subst, inl, inr, append_assoc, arith, add-one}
+use Rattle.std.proofs.Common.{◌≡◌, ◌≢◌, ℕ, ◌+◌, ◌<◌, ◌≤◌, eqb, List, [], ◌∷◌, ◌++◌, length, take, drop, get_or, zero, suc, refl, sym, ◌∙◌, ap, subst, inl, inr, append_assoc, append-nil, cond, arith, add-one}
 use Rattle.std.proofs.lemmas.Bool.{cond-true, cond-false, ne_eqb, eq-eqb, cases_lt}
 use Rattle.std.proofs.lemmas.Bool.Decides.{eqb_tells}
-use Rattle.std.proofs.lemmas.List.{take_at, drop_at, length-append}
-use Rattle.far_io.specs.Lines.{line_of, after_line, on_first, lines_of, on_ended, ended_lines_of, IsFirstLine}
+use Rattle.std.proofs.lemmas.List.{take_at, drop_at, take_all, take-append-le, length-append}
+use Rattle.far_io.specs.LineView.{IsSearched}
+use Rattle.far_io.specs.Lines.{line_of, after_line, on_first, lines_of, on_ended, ended_lines_of, part_after, last_part, IsFirstLine}
 
 pub line_of_more : (b : ℕ) (bs : List ℕ) → b ≢ 10 → line_of (b ∷ bs) ≡ b ∷ line_of bs
 unfolding line_of
@@ -207,3 +208,58 @@ ended_none [] whole = ended_nothing
 ended_none (b ∷ bs) whole =
     let p = line_of_parts b bs whole in
     ended_lines_more b bs p.0 ∙ ap (on_ended b) (ended_none bs p.1) ∙ on_ended_none b
+
+-- the bytes before the first line end stand at the front
+line_front : (bytes : List ℕ) → take (length (line_of bytes)) bytes ≡ line_of bytes
+line_front bytes = elim (cases_lt (length (line_of bytes)) (length bytes)) [
+  | inl short ↦ (parts_at_end bytes (length (line_of bytes)) refl short).0
+  | inr long ↦ take_all (length (line_of bytes)) bytes (omega (arith, length_line_of bytes)) ∙ sym (line_all bytes long)
+]
+
+-- a search that went to the first line end, or through all bytes
+pub searched_to_end : (bytes : List ℕ) (end : ℕ) → end ≡ length (line_of bytes) → IsSearched end bytes
+searched_to_end bytes end is_end =
+    let front : take end bytes ≡ line_of bytes = ap (λ n. take n bytes) is_end ∙ line_front bytes in
+    record { within = omega (arith, length_line_of bytes); none = ap line_of front ∙ line_twice bytes ∙ sym front }
+
+pub searched_none : (bytes : List ℕ) → IsSearched 0 bytes
+searched_none bytes = record { within = omega arith; none = line_of_none }
+
+-- what was searched is searched where more bytes came after it
+pub searched_on : (searched : ℕ) (bytes piece grown : List ℕ) → grown ≡ bytes ++ piece → IsSearched searched bytes → IsSearched searched grown
+searched_on searched bytes piece grown grows found =
+    let front : take searched grown ≡ take searched bytes = ap (take searched) grows ∙ take-append-le searched bytes piece found.within in
+    record { within = omega (arith, ap length grows, length-append bytes piece, found.within); none = ap line_of front ∙ found.none ∙ sym front }
+
+pub part_after_both : (part xs ys : List ℕ) → part_after part (xs ++ ys) ≡ part_after (part_after part xs) ys
+unfolding part_after
+part_after_both part [] ys = refl
+part_after_both part (b ∷ bs) ys = part_after_both (cond (eqb b 10) [] (part ++ b ∷ [])) bs ys
+
+part_after_end : (part : List ℕ) → part_after part (10 ∷ []) ≡ []
+unfolding part_after
+part_after_end part = refl
+
+part_after_none : (part : List ℕ) → part_after part [] ≡ part
+unfolding part_after
+part_after_none part = refl
+
+part_after_more : (part : List ℕ) (b : ℕ) (bs : List ℕ) → b ≢ 10 → part_after part (b ∷ bs) ≡ part_after (part ++ b ∷ []) bs
+unfolding part_after
+part_after_more part b bs other = ap (λ p. part_after p bs) (cond-false (eqb b 10) [] (part ++ b ∷ []) (ne_eqb b 10 other))
+
+pub last_part_none : last_part [] ≡ []
+last_part_none = part_after_none []
+
+pub last_part_ended : (xs : List ℕ) → last_part (xs ++ 10 ∷ []) ≡ []
+last_part_ended xs = part_after_both [] xs (10 ∷ []) ∙ part_after_end (part_after [] xs)
+
+part_after_whole : (part bytes : List ℕ) → line_of bytes ≡ bytes → part_after part bytes ≡ part ++ bytes
+part_after_whole part [] whole = part_after_none part ∙ sym (append-nil part)
+part_after_whole part (b ∷ bs) whole =
+    let p = line_of_parts b bs whole in
+    part_after_more part b bs p.0 ∙ part_after_whole (part ++ b ∷ []) bs p.1 ∙ append_assoc part (b ∷ []) bs
+
+-- what has no line end, after bytes that end with one
+pub last_part_is : (seen part : List ℕ) → last_part seen ≡ [] → line_of part ≡ part → last_part (seen ++ part) ≡ part
+last_part_is seen part ended whole = part_after_both [] seen part ∙ ap (λ p. part_after p part) ended ∙ part_after_whole [] part whole

@@ -1,10 +1,10 @@
 -- What read_line answers at each of its exits.
 use Rattle.std.proofs.Common.{◌≡◌, ℕ, ◌+◌, ◌-◌, ◌^◌, ◌<◌, ◌≤◌, min, Bool, true, false, List, [], ◌∷◌, ◌++◌, length, take, drop, Option, Some, Ok, Err, refl, sym, ◌∙◌, ap, subst, inl, inr, append_assoc, append-nil, arith}
-use Rattle.std.proofs.lemmas.List.{length-append, take_at, length-take, nil_from_length, take_all, drop_all}
+use Rattle.std.proofs.lemmas.List.{length-append, length-take, nil_from_length, take_all, drop_all}
 use Rattle.far_io.specs.declared.lines.LineEnd.TheVariants.{End, ReadFault, TooLong}
 use Rattle.far_io.specs.Left.{in_front, IsAtEnd}
 use Rattle.far_io.specs.Gains.{Gains}
-use Rattle.far_io.specs.LineView.{LineView}
+use Rattle.far_io.specs.LineView.{LineView, AnswersAtOnce}
 use Rattle.far_io.specs.Lines.{line_of, IsFirstLine}
 use Rattle.far_io.specs.Reads.{Reads, ReadsLine}
 use Rattle.far_io.proofs.Left.{in_front_of, in_front_none, in_front_told}
@@ -120,11 +120,24 @@ reads_fault before left now old new ahead limit end same number going is_limit i
       going = going;
     }
 
--- more of the same, after a piece that came
-pub passed_on : (ahead more : List ℕ) (left now : Option (List ℕ)) (end count : ℕ) → end ≡ length (line_of ahead) → length ahead ≤ end → Gains ahead more left now count
-    → (line_of (take end more) ≡ take end more) × (end + count ≡ length more)
-passed_on ahead more left now end count is_end long gains =
-    let whole : line_of ahead ≡ ahead = line_all ahead (subst (λ n. length ahead ≤ n) is_end long) in
-    let size : length ahead ≡ end = omega (arith, length_line_of ahead) in
-    let front : take end more ≡ ahead = ap (take end) gains.grows ∙ take_at ahead gains.piece end size in
-    (ap line_of front ∙ whole ∙ sym front, omega (arith, ap length gains.grows, length-append ahead gains.piece, gains.long))
+-- a buffer that answers at once needs no further piece
+pub answers_none : (S : Type 0) (first line searched : LineView) (limit end size : ℕ) → (AnswersAtOnce first → S × (line ≡ first)) → searched ≡ line → line.ended ≡ false
+    → limit ≡ first.limit → end ≡ length (line_of searched.ahead) → size ≡ length searched.ahead → end ≤ limit → size ≤ end → AnswersAtOnce first → ⊥
+answers_none S first line searched limit end size kept same going is_limit is_end is_size fits long answers =
+    let is : searched ≡ first = same ∙ (kept answers).1 in
+    let before : length (line_of first.ahead) ≡ end = ap (λ (l : LineView). length (line_of l.ahead)) (sym is) ∙ sym is_end in
+    let all : length first.ahead ≡ size = ap (λ (l : LineView). length l.ahead) (sym is) ∙ sym is_size in
+    let ended : first.ended ≡ false = ap (λ (l : LineView). l.ended) (sym (kept answers).1) ∙ going in
+    elim answers [
+      | inl over ↦ absurd (cc)
+      | inr some ↦ elim some [
+        | inl far ↦ omega (arith, far)
+        | inr near ↦ omega (arith, near)
+      ]
+    ]
+
+-- a search of all that was ahead, before a piece that came
+pub piece_came : (ahead more : List ℕ) (left now : Option (List ℕ)) (end count : ℕ) → end ≡ length (line_of ahead) → length ahead ≤ end → Gains ahead more left now count
+    → end + count ≡ length more
+piece_came ahead more left now end count is_end long gains =
+    omega (arith, length_line_of ahead, ap length gains.grows, length-append ahead gains.piece, gains.long)

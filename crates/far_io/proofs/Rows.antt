@@ -1,7 +1,7 @@
 -- Worked rows of the definitions, computed.
 use Rattle.std.proofs.Common.{◌≡◌, ◌-◌, ◌^◌, [], ◌∷◌, refl, arith}
 use Rattle.std.specs.Prelude.{codes}
-use Rattle.far_io.specs.Lines.{line_of, after_line, lines_of, on_first, ended_lines_of, on_ended}
+use Rattle.far_io.specs.Lines.{line_of, after_line, lines_of, on_first, ended_lines_of, on_ended, part_after, last_part}
 use Rattle.far_io.specs.Words.{words_of}
 use Rattle.far_io.specs.Decimals.{IsDecimal, value_of}
 
@@ -58,3 +58,11 @@ leading_zero_row good = absurd (omega (arith, good.numeral.0))
 
 sign_row : ¬ IsDecimal (codes "+1")
 sign_row good = absurd (omega (arith, good.numeral.0))
+
+last_part_row : last_part (codes "ab\n\nc") ≡ codes "c"
+unfolding part_after
+last_part_row = refl
+
+no_last_part_row : last_part (codes "ab\n") ≡ []
+unfolding part_after
+no_last_part_row = refl

@@ -8,7 +8,7 @@ use Rattle.far_io.specs.Adds.{Adds, AddsPrefix}
 use Rattle.far_io.specs.Sends.{Sends, spaced}
 use Rattle.far_io.proofs.Adds.{adds_nothing, adds_more, adds_equal}
 
-module _ {O : Type 0} (took : O → List ℕ → Type 0) where
+module _ {O : Type 0} (took : O → O → List ℕ → Type 0) where
   pub sends_nothing : (sink : O) (held : List ℕ) → Sends took sink sink held held []
   sends_nothing sink held = record { sent = []; adds = adds_nothing took sink; whole = sym (append-nil held) }
 
@@ -65,7 +65,7 @@ spaced_none = refl
 pub spaced_more : (numbers : List ℕ) (i : ℕ) → i < length numbers → spaced (take (i + 1) numbers) ≡ spaced (take i numbers) ++ (32 ∷ decimal (get_or numbers i 0))
 spaced_more numbers i here = ap spaced (take_more numbers i 0 here) ∙ spaced_append (take i numbers) (get_or numbers i 0 ∷ []) ∙ ap (λ t. spaced (take i numbers) ++ t) (spaced_one (get_or numbers i 0))
 
-module _ {O : Type 0} (took : O → List ℕ → Type 0) where
+module _ {O : Type 0} (took : O → O → List ℕ → Type 0) where
   pub sends_equal : (a b : O) (held next xs ys : List ℕ) → xs ≡ ys → Sends took a b held next xs → Sends took a b held next ys
   sends_equal a b held next xs ys same sends = subst (Sends took a b held next) same sends
 
@@ -86,7 +86,7 @@ module _ {O : Type 0} (took : O → List ℕ → Type 0) where
       (ap (λ t. held ++ t) (sym (spaced_append (take i numbers) (drop i numbers)) ∙ ap spaced (take-append-drop i numbers)))
       (prefix_after took a b c held next (spaced (take i numbers)) (spaced (drop i numbers)) first (prefix_longer took b c next (spaced (drop i numbers)) fault))
 
-module _ {O : Type 0} (took : O → List ℕ → Type 0) where
+module _ {O : Type 0} (took : O → O → List ℕ → Type 0) where
   -- what is held goes on with these bytes, after room was made for them
   pub held_more : (a b : O) (held next last bytes : List ℕ) → Sends took a b held next [] → last ≡ next ++ bytes → Sends took a b held last bytes
   held_more a b held next last bytes room grows =
@@ -123,7 +123,7 @@ pub flat_map_parted : {X A : Type 0} (f : X → List A) (xs : List X) (i : ℕ) 
 flat_map_parted f xs i = ap (flat_map f) (sym (take-append-drop i xs)) ∙ flat_map-append f (take i xs) (drop i xs)
 
 -- the texts of rows, one after another
-module _ {O X : Type 0} (took : O → List ℕ → Type 0) (text : X → List ℕ) where
+module _ {O X : Type 0} (took : O → O → List ℕ → Type 0) (text : X → List ℕ) where
   pub sends_row : (a b c : O) (held next last grown : List ℕ) (rows : List X) (i : ℕ) (d row : X) → Sends took a b held next (flat_map text (take i rows))
       → Sends took b c next last [] → grown ≡ last ++ text row → row ≡ get_or rows i d → i < length rows → Sends took a c held grown (flat_map text (take (i + 1) rows))
   sends_row a b c held next last grown rows i d row first room grows is here =

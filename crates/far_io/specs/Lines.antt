@@ -1,5 +1,5 @@
 -- Lines of bytes, each ended by 10.
-use Rattle.std.specs.Prelude.{◌≡◌, ℕ, ◌==◌, cond, List, [], ◌∷◌}
+use Rattle.std.specs.Prelude.{◌≡◌, ℕ, ◌==◌, cond, List, [], ◌∷◌, ◌++◌}
 
 -- the bytes before the first line end
 unfoldable pub line_of : List ℕ → List ℕ
@@ -30,6 +30,15 @@ on_ended byte (line ∷ lines) = (byte ∷ line) ∷ lines
 unfoldable pub ended_lines_of : List ℕ → List (List ℕ)
 ended_lines_of [] = []
 ended_lines_of (byte ∷ bytes) = cond (byte == 10) ([] ∷ ended_lines_of bytes) (on_ended byte (ended_lines_of bytes))
+
+-- what stands after the last line end, where this part came before these bytes
+unfoldable pub part_after : List ℕ → List ℕ → List ℕ
+part_after part [] = part
+part_after part (byte ∷ bytes) = part_after (cond (byte == 10) [] (part ++ byte ∷ [])) bytes
+
+-- the bytes after the last line end
+abbrev pub last_part : List ℕ → List ℕ
+last_part bytes = part_after [] bytes
 
 -- the first line of these bytes, and what is after it
 pub record IsFirstLine (bytes first others : List ℕ) : Type 0 where

@@ -1,5 +1,5 @@
 -- What contracts see of the sources and sinks in memory.
-use Rattle.std.specs.Prelude.{◌≡◌, ℕ, List}
+use Rattle.std.specs.Prelude.{◌≡◌, ℕ, List, ◌++◌}
 
 pub record MemSourceView : Type 0 where
   -- the bytes that are left
@@ -27,9 +27,9 @@ pub record MemSinkView : Type 0 where
   pub calls : ℕ
   pub faults : ℕ
 
--- it stands for the bytes that it keeps, and for no other list
-abbrev pub MemSinkTook : MemSinkView → List ℕ → Type 0
-MemSinkTook sink bytes = sink.bytes ≡ bytes
+-- it keeps these bytes after those that it kept
+abbrev pub MemSinkTook : MemSinkView → MemSinkView → List ℕ → Type 0
+MemSinkTook before now bytes = now.bytes ≡ before.bytes ++ bytes
 
 pub record SureSinkView : Type 0 where
   -- the bytes that it took
@@ -39,6 +39,6 @@ pub record SureSinkView : Type 0 where
   -- how many calls failed
   pub faults : ℕ
 
--- it stands for the bytes that it keeps, and for no other list
-abbrev pub SureSinkTook : SureSinkView → List ℕ → Type 0
-SureSinkTook sink bytes = sink.bytes ≡ bytes
+-- it keeps these bytes after those that it kept
+abbrev pub SureSinkTook : SureSinkView → SureSinkView → List ℕ → Type 0
+SureSinkTook before now bytes = now.bytes ≡ before.bytes ++ bytes

@@ -6,7 +6,7 @@ use Rattle.far_io.specs.declared.lines.LineEnd.{LineEnd}
 use Rattle.far_io.specs.declared.lines.LineEnd.TheVariants.{End, ReadFault, TooLong}
 use Rattle.far_io.specs.Left.{in_front}
 use Rattle.far_io.specs.LineView.{LineView}
-use Rattle.far_io.specs.Lines.{line_of, after_line, IsFirstLine}
+use Rattle.far_io.specs.Lines.{line_of, after_line, ended_lines_of, last_part, IsFirstLine}
 
 -- the line stood first in what was to be read, with its line end, or last and without one
 abbrev pub IsSpelled : Option (List ℕ) → Option (List ℕ) → List ℕ → Bool → Type 0
@@ -51,3 +51,9 @@ Reads before now old new (Ok _) = ReadsLine before now old new
 Reads before now old new (Err End) = ReadsEnd before now old new
 Reads before now old new (Err ReadFault) = ReadsFault before now old new
 Reads before now old new (Err (TooLong limit)) = ReadsTooLong before now old new limit
+
+-- At a fault, after these lines: of a told input so much was seen that its ended lines are these, and that what is after its last
+-- line end is within the limit. The rest is left.
+pub record SeenAtFault (input left : Option (List ℕ)) (lines : List (List ℕ)) (limit : ℕ) : Type 0 where
+  pub told : (bytes : List ℕ) → input ≡ Some bytes → (seen : List ℕ) × (rest : List ℕ) × (left ≡ Some rest) × (bytes ≡ seen ++ rest)
+      × (ended_lines_of seen ≡ lines) × (length (last_part seen) ≤ limit)

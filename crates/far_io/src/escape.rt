@@ -61,8 +61,8 @@ fn push_byte(piece: &mut Piece, byte: u8)
     piece.push(hex_byte(byte % 16));
 }
 
-/// Puts the escaped text of these bytes into the piece, which goes to the sink as it fills. Whoever calls it flushes the
-/// piece. It takes no memory.
+/// Puts the escaped text of these bytes into the piece, which goes to the sink as it fills. Whoever calls it flushes
+/// the piece. It takes no memory.
 pub fn push_escaped<O: Sink>(
     sink: &mut O,
     piece: &mut Piece,
@@ -84,8 +84,8 @@ pub fn push_escaped<O: Sink>(
     Ok(())
 }
 
-/// Gives the escaped text of these bytes to the sink, in pieces of 4 KiB. After a fault the sink took a prefix of it. It
-/// takes no memory. The grammar stands in `docs/FORMATS.md`.
+/// Gives the escaped text of these bytes to the sink, in pieces of 4 KiB. After a fault the sink took a prefix of it.
+/// It takes no memory. The grammar stands in `docs/FORMATS.md`.
 pub fn put_escaped<O: Sink>(sink: &mut O, bytes: &[u8]) -> Result<(), WriteFault>
     ensures all { OnOk result (Adds O.took sink.old sink.new (escaped bytes.now)) }
     ensures prefix { OnErr result (AddsPrefix O.took sink.old sink.new (escaped bytes.now)) }
@@ -101,7 +101,8 @@ fn first_byte(text: &[u8]) -> Option<(u8, usize)>
     ensures front { IfSome result (λ found. text.now ≡ escaped_byte found.0 ++ drop found.1 text.now) }
     ensures byte { IfSome result (λ found. found.0 < 256) }
     ensures length { IfSome result (λ found. length (escaped_byte found.0) ≡ found.1) }
-    ensures none { IfNone result ((byte : ℕ) → byte < 256 → (others : List ℕ) → text.now ≢ escaped_byte byte ++ others) }
+    ensures none { IfNone result ((byte : ℕ) → byte < 256 → (others : List ℕ)
+        → text.now ≢ escaped_byte byte ++ others) }
 {
     if text.is_empty() {
         return None;
@@ -126,8 +127,8 @@ fn is_percent(text: &[u8]) -> bool
     text.len() == 1 && text[0] == b'%'
 }
 
-/// The bytes for which an escaped text stands. A text that is the spelling of no list gives None: one with an escape of a
-/// byte that stands for itself, with lower-case digits, with a space, and the empty one.
+/// The bytes for which an escaped text stands. A text that is the spelling of no list gives None: one with an escape
+/// of a byte that stands for itself, with lower-case digits, with a space, and the empty one.
 pub fn parse_escaped(alloc: Global, text: &[u8]) -> Result<Option<Raw>, AllocError>
     ensures spelled { IfOk result (λ found. IfSome found (λ bytes. text.now ≡ escaped bytes)) }
     ensures bytes { IfOk result (λ found. IfSome found (λ bytes. AreBytes bytes)) }

@@ -6,6 +6,8 @@
 //! where it is told. The formats are in `docs/FORMATS.md`, the promises in `docs/PROMISES.md`.
 #![tactic(auto)]
 
+#[cfg(test)]
+mod buffer_tests;
 mod decimal;
 mod escape;
 mod lines;
@@ -19,6 +21,7 @@ mod sources;
 #[cfg(test)]
 mod tests;
 mod words;
+mod write_buf;
 
 pub use decimal::parse_decimal;
 pub use escape::{parse_escaped, push_escaped, put_escaped};
@@ -31,3 +34,4 @@ pub use real::{ReadSource, WriteSink};
 pub use sinks::{MemSink, SureSink};
 pub use sources::{MemSource, SureSource};
 pub use words::{next_number, split_word};
+pub use write_buf::{WriteBuf, WriteRoom};

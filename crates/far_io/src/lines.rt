@@ -1,12 +1,13 @@
 //! Lines of a source, the same for every cutting of it into pieces.
 
-ghost use Rattle.std.specs.Prelude.{◌≡◌, ◌+◌, ◌-◌, ◌^◌, ◌≤◌, min, [], length, drop, take, slice_range, IfOk, MatchResult, Err, true, false};
+ghost use Rattle.std.specs.Prelude.{◌≡◌, ◌+◌, ◌-◌, ◌^◌, ◌≤◌, ◌↔◌, min, [], length, drop, take, slice_range, IfOk, IsTrue, MatchResult, Err, true, false};
 ghost use Rattle.far_io.specs.Faults.{HasCause, Follows, Rose};
 ghost use Rattle.far_io.specs.Left.{in_front, IsAtEnd};
 ghost use Rattle.far_io.specs.Lines.{line_of};
-ghost use Rattle.far_io.specs.LineView.{AgreesOnEnd};
+ghost use Rattle.far_io.specs.LineView.{AgreesOnEnd, AnswersAtOnce};
 ghost use Rattle.far_io.specs.Gains.{Gains};
 ghost use Rattle.far_io.specs.Reads.{Reads};
+ghost use Rattle.far_io.specs.declared.lines.TheConstants.{PIECE};
 
 use crate::outside::{Failed, Source};
 use std::alloc::{AllocError, Global};
@@ -51,13 +52,16 @@ pub struct LineBuf {
     line_to: usize,
     from: usize,
     to: usize,
+    // Among so many bytes ahead no line end was found.
+    searched: usize,
     number: u64,
     ended: bool,
 }
 
 impl Model for LineBuf {
     ghost use Rattle.std.specs.Prelude.{◌≡◌, ◌+◌, ◌≤◌, slice_range, vec_len, true};
-    ghost use Rattle.far_io.specs.LineView.{LineView};
+    ghost use Rattle.far_io.specs.LineView.{LineView, IsSearched};
+    ghost use Rattle.far_io.specs.declared.lines.TheConstants.{PIECE};
 
     ghost Value = { LineView };
 
@@ -70,12 +74,13 @@ impl Model for LineBuf {
     } };
 
     ghost invariant = { λ s. (s.from ≤ s.to) × (s.to ≤ vec_len s.bytes) × (s.line_from ≤ s.line_to)
-        × (s.line_to ≤ vec_len s.bytes) × (vec_len s.bytes ≡ s.limit + 65536) × (s.ended ≡ true → s.from ≡ s.to) };
+        × (s.line_to ≤ vec_len s.bytes) × (vec_len s.bytes ≡ s.limit + PIECE)
+        × (s.ended ≡ true → s.from ≡ s.to) × IsSearched s.searched (slice_range s.bytes.items s.from s.to) };
 }
 
 impl LineBuf {
-    /// A buffer for lines of at most `limit` bytes, their line ends apart. It reserves its whole room here, and takes no
-    /// memory afterwards.
+    /// A buffer for lines of at most `limit` bytes, their line ends apart. It reserves its whole room here, and takes
+    /// no memory afterwards.
     pub fn new(alloc: Global, limit: usize) -> Result<Self, AllocError>
         ensures { IfOk result (λ line. line ≡ record {
           limit = limit;
@@ -93,6 +98,7 @@ impl LineBuf {
             line_to: 0,
             from: 0,
             to: 0,
+            searched: 0,
             number: 0,
             ended: false,
         })
@@ -121,18 +127,31 @@ impl LineBuf {
     // How many bytes are ahead.
     fn ahead_len(&self) -> usize
         ensures bytes { result ≡ length self.now.ahead }
-        ensures room { length self.now.ahead ≤ self.now.limit + 65536 }
+        ensures room { length self.now.ahead ≤ self.now.limit + PIECE }
     {
         self.to - self.from
     }
 
-    // How many bytes ahead come before the first line end, all where there is none. Among the first `seen` there is none.
-    fn end_ahead(&self, seen: usize) -> usize
-        requires seen { seen ≤ length self.now.ahead }
-        requires passed { line_of (take seen self.now.ahead) ≡ take seen self.now.ahead }
-        ensures { result ≡ length (line_of self.now.ahead) }
+    // How many bytes ahead come before the first line end, all where there is none. No byte is searched twice.
+    fn end_ahead(&mut self) -> usize
+        ensures end { result ≡ length (line_of self.new.ahead) }
+        ensures same { self.new ≡ self.old }
     {
-        find_end(&self.bytes[self.from..self.to], seen)
+        let end = find_end(&self.bytes[self.from..self.to], self.searched);
+        self.searched = end;
+        end
+    }
+
+    /// Whether [`read_line`] answers without a take from the source: where a line end is ahead, or more bytes than the
+    /// limit come before one, or the end of the input was met. A run passes on what it wrote before a read that takes.
+    pub fn has_line(&mut self) -> bool
+        ensures answer { IsTrue result ↔ AnswersAtOnce self.old }
+        ensures same { self.new ≡ self.old }
+    {
+        let end = self.end_ahead();
+        let length = self.ahead_len();
+        let limit = self.limit();
+        self.ended() || end > limit || end < length
     }
 
     fn ended(&self) -> bool
@@ -165,6 +184,7 @@ impl LineBuf {
         self.line_from = self.from;
         self.line_to = self.from + end;
         self.from += rest;
+        self.searched = 0;
         self.number = self.number.saturating_add(1);
     }
 }
@@ -195,9 +215,9 @@ fn to_front(bytes: &mut [u8], from: usize, to: usize)
 
 // Takes a piece from the source, to the place `at` and after it.
 fn take_at<S: Source>(source: &mut S, bytes: &mut [u8], at: usize) -> Result<usize, Failed>
-    requires { at + 65536 ≤ length bytes.old }
+    requires { at + PIECE ≤ length bytes.old }
     ensures front { take at bytes.new ≡ take at bytes.old }
-    ensures room { IfOk result (λ count. count ≤ 65536) }
+    ensures room { IfOk result (λ count. count ≤ PIECE) }
     ensures bytes { MatchResult result
         (λ count. (S.left source.old ≡ in_front (slice_range bytes.new at (at + count)) (S.left source.new))
         × (count ≡ 0 → IsAtEnd (S.left source.new)))
@@ -210,10 +230,10 @@ fn take_at<S: Source>(source: &mut S, bytes: &mut [u8], at: usize) -> Result<usi
 // Moves the part to the front where there is no room for a piece after it, and says where it stands.
 fn make_room(bytes: &mut [u8], from: usize, to: usize) -> (usize, usize)
     requires order { from ≤ to }
-    requires room { to - from + 65536 ≤ length bytes.old }
+    requires room { to - from + PIECE ≤ length bytes.old }
     requires within { to ≤ length bytes.old }
     ensures order { result.0 ≤ result.1 }
-    ensures room { result.1 + 65536 ≤ length bytes.new }
+    ensures room { result.1 + PIECE ≤ length bytes.new }
     ensures same { slice_range bytes.new result.0 result.1 ≡ slice_range bytes.old from to }
 {
     if bytes.len() - to < PIECE {
@@ -233,7 +253,7 @@ impl LineBuf {
         ensures number { self.new.number ≡ self.old.number }
         ensures ended { self.new.ended ≡ self.old.ended }
         ensures line { self.new.line ≡ [] }
-        ensures room { length self.new.ahead ≤ self.new.limit + 65536 }
+        ensures room { length self.new.ahead ≤ self.new.limit + PIECE }
         ensures ahead { MatchResult result
             (λ count. Gains self.old.ahead self.new.ahead
             (S.left source.old) (S.left source.new) count)
@@ -259,8 +279,8 @@ impl LineBuf {
 /// least one byte. It takes no memory, and reads in pieces of 64 KiB.
 ///
 /// What is to be read is what the buffer keeps ahead, and then what the source has left: where the source tells that,
-/// each answer is decided by these bytes, but for a fault. After any other answer than Ok the buffer's last line is of no
-/// more use, and what is to be read and the count of lines are as before.
+/// each answer is decided by these bytes, but for a fault. After any other answer than Ok the buffer's last line is of
+/// no more use, and what is to be read and the count of lines are as before.
 pub fn read_line<S: Source>(source: &mut S, line: &mut LineBuf) -> Result<(), LineEnd>
     ensures read { Reads (in_front line.old.ahead (S.left source.old))
         (in_front line.new.ahead (S.left source.new)) line.old line.new result }
@@ -273,6 +293,9 @@ pub fn read_line<S: Source>(source: &mut S, line: &mut LineBuf) -> Result<(), Li
     ensures remembered { line.old.ended ≡ true → (result ≡ Err LineEnd.End)
         × (line.new ≡ line.old) × (source.new ≡ source.old) }
 
+    // Where has_line holds it takes nothing, so that it needn't wait.
+    ensures at_once { AnswersAtOnce line.old → source.new ≡ source.old }
+
     ensures faults { Follows (S.faults source.old) (S.faults source.new) }
     ensures fault { result ≡ Err LineEnd.ReadFault → Rose (S.faults source.old) (S.faults source.new) }
 {
@@ -280,10 +303,9 @@ pub fn read_line<S: Source>(source: &mut S, line: &mut LineBuf) -> Result<(), Li
         return Err(LineEnd::End);
     }
     let limit = line.limit();
-    let mut seen = 0;
     'pieces: loop {
+        let end = line.end_ahead();
         let length = line.ahead_len();
-        let end = line.end_ahead(seen);
         if end > limit {
             return Err(LineEnd::TooLong { limit });
         }
@@ -305,6 +327,5 @@ pub fn read_line<S: Source>(source: &mut S, line: &mut LineBuf) -> Result<(), Li
                 }
             }
         }
-        seen = end;
     }
 }

@@ -40,9 +40,9 @@ pub trait Source {
 
 /// Where bytes go.
 pub trait Sink {
-    // The lists of bytes that this sink stands for as what it took: one for a sink that keeps its bytes, none for one
-    // that tells nothing, and each that fits for one that keeps a digest alone.
-    ghost took: { Self → List ℕ → Type 0 };
+    // The lists of bytes that it may have taken from one state to another: one for a sink that keeps its bytes, none
+    // for one that tells nothing, and each that fits for one that keeps a digest alone.
+    ghost took: { Self → Self → List ℕ → Type 0 };
 
     // The count of faults so far, and the greatest count that it can ever reach, where the object tells that.
     ghost faults: { Self → Faults };

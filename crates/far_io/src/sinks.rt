@@ -48,6 +48,13 @@ impl MemSink {
         self.bytes.items()
     }
 
+    /// How many calls were made.
+    pub fn calls(&self) -> u64
+        ensures { result ≡ self.now.calls }
+    {
+        self.calls
+    }
+
     /// How many calls failed.
     pub fn faults(&self) -> u64
         ensures { result ≡ self.now.faults }
@@ -80,7 +87,7 @@ impl Sink for MemSink {
     {
         let call = self.calls;
         self.calls = self.calls.saturating_add(1);
-        if self.fails.contains(&call) || self.bytes.extend(bytes).is_err() {
+        if self.fails.contains(&call) || self.bytes.extend_from_slice(bytes).is_err() {
             self.faults = self.faults.saturating_add(1);
             return Err(Failed);
         }
@@ -102,7 +109,11 @@ impl Model for SureSink {
 
     ghost Value = { SureSinkView };
 
-    ghost view = { λ s. record { bytes = take s.len s.bytes.items; room = vec_len s.bytes - s.len; faults = s.faults } };
+    ghost view = { λ s. record {
+      bytes = take s.len s.bytes.items;
+      room = vec_len s.bytes - s.len;
+      faults = s.faults;
+    } };
 
     ghost invariant = { λ s. s.len ≤ vec_len s.bytes };
 }

@@ -1,3 +1,5 @@
+//! Lines, decimals, escapes and words by tables, and what sources and sinks do at faults.
+
 use crate::{
     Failed, LineBuf, LineEnd, MemSink, MemSource, Raw, ReadSource, Sink, Source, SureSink,
     SureSource, WriteFault, WriteSink, parse_decimal, parse_escaped, put_all, put_decimal,
@@ -16,7 +18,7 @@ fn transcript(
     limit: usize,
 ) -> Result<Vec<u8>, Fail> {
     let alloc = rt.alloc();
-    let bytes = Raw::from_vec(Vec::from_slice(alloc, text)?);
+    let bytes = Raw::from(Vec::from_slice(alloc, text)?);
     let fails = Vec::from_slice(alloc, &[fault])?;
     let mut source = MemSource::new(bytes, piece.max(1), fails);
     let mut line = LineBuf::new(alloc, limit)?;
@@ -169,7 +171,7 @@ fn a_sure_source_gives_all(rt: HostRuntime) -> Result<(), Fail> {
     let alloc = rt.alloc();
     let mut raw = Raw::new(alloc);
     raw.push(b'a')?;
-    raw.extend(b"bc")?;
+    raw.extend_from_slice(b"bc")?;
     let mut source = SureSource::new(raw, 2);
     let mut out = [0u8; 4];
     assert_eq!(rt; source.take(&mut out), Ok(2));

@@ -36,9 +36,11 @@ pub fn split_word(line: &[u8]) -> (&[u8], Option<&[u8]>)
 
 /// The number that the first of these words spells, where it is a decimal of at most `limit`, and the words after it.
 pub fn next_number(words: Option<&[u8]>, limit: u64) -> Option<(u64, Option<&[u8]>)>
-    ensures number { IfSome result (λ found. words_after (option_copied words.entry) ≡ decimal found.0 ∷ words_after (option_copied found.1)) }
+    ensures number { IfSome result (λ found.
+        words_after (option_copied words.entry) ≡ decimal found.0 ∷ words_after (option_copied found.1)) }
     ensures within { IfSome result (λ found. found.0 ≤ limit) }
-    ensures nothing { IfNone result ((number : ℕ) → number ≤ limit → (others : List (List ℕ)) → words_after (option_copied words.entry) ≢ decimal number ∷ others) }
+    ensures nothing { IfNone result ((number : ℕ) → number ≤ limit → (others : List (List ℕ))
+        → words_after (option_copied words.entry) ≢ decimal number ∷ others) }
 {
     let (word, others) = split_word(words?);
     let number = parse_decimal(word)?;

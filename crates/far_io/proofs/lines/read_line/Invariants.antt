@@ -1,6 +1,6 @@
-use Rattle.std.proofs.Common.{◌≡◌, ◌+◌, ◌-◌, ◌≤◌, false, take, length}
+use Rattle.std.proofs.Common.{◌≡◌, ◌+◌, ◌-◌, false, length}
 use Rattle.far_io.specs.Left.{in_front}
-use Rattle.far_io.specs.Lines.{line_of}
+use Rattle.far_io.specs.LineView.{AnswersAtOnce}
 use Rattle.far_io.specs.Faults.{Follows}
 use Rattle.far_io.proofs.lines.read_line.Given as goal
 
@@ -11,8 +11,7 @@ invariant-pieces g l = record {
   number : l.line.number ≡ l.initial.line.number;
   going : l.line.ended ≡ false;
   faults : Follows (g.S.Source.faults l.initial.source) (g.S.Source.faults l.source);
-  seen : l.seen ≤ length l.line.ahead;
-  passed : line_of (take l.seen l.line.ahead) ≡ take l.seen l.line.ahead;
+  at_once : AnswersAtOnce l.initial.line → (l.source ≡ l.initial.source) × (l.line ≡ l.initial.line);
 }
 
 abbrev pub decreases-pieces : goal.decreases-pieces
