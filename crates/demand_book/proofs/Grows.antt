@@ -1,11 +1,12 @@
 -- A book's history that grows by one entry.
-use Rattle.std.proofs.Common.{◌≡◌, ℕ, List, [], ◌∷◌, ◌++◌, true, false, Ok, Err, OnOk, OnErr, IsErr, ◌^◌, ◌≤◌, ◌↔◌, refl, ap, sym, ◌∙◌, subst}
+use Rattle.std.proofs.Common.{◌≡◌, ℕ, List, [], ◌∷◌, ◌++◌, true, false, Ok, Err, OnOk, OnErr, IsErr, ◌≤◌, ◌↔◌, refl, ap, sym, ◌∙◌, subst}
 use mathlib.Core.Bool.{true≢false, false≢true}
 use Rattle.std.specs.Result.{is_err}
 use Rattle.std.specs.declared.result.Result.{Result}
 use Rattle.karma_rule.specs.declared.shape.Shape.{Shape}
 use Rattle.demand_book.specs.declared.book.ReportEnd.{ReportEnd}
 use Rattle.demand_book.specs.declared.book.QuantaSpent.{QuantaSpent}
+use Rattle.demand_book.specs.declared.book.TheConstants.{QUANTA}
 use Rattle.demand_book.specs.declared.report.Report.{Report as Told}
 use Rattle.demand_book.specs.declared.as_object.BookAsk.{BookAsk}
 use Rattle.demand_book.specs.declared.as_object.BookAsk.TheVariants.{Report, Share, Tick}
@@ -15,65 +16,65 @@ use Rattle.demand_book.specs.declared.as_object.BookEntry.{BookEntry}
 use Rattle.demand_book.specs.Book.{BookView, opening_book, reported, ticked}
 use Rattle.demand_book.specs.BookLegal.{entry_of, book_with, book_after, IsRight, AnswersTick, BookLegal, StandsFor}
 
-after_one : (b : BookView) (h : List BookEntry) (e : BookEntry) → book_after b (h ++ e ∷ []) ≡ book_with (book_after b h) e.ask e.tell
-after_one b [] e = refl
-after_one b (x ∷ h) e = after_one (book_with b x.ask x.tell) h e
+after_one : (book : BookView) (history : List BookEntry) (entry : BookEntry) → book_after book (history ++ entry ∷ []) ≡ book_with (book_after book history) entry.ask entry.tell
+after_one book [] entry = refl
+after_one book (first ∷ history) entry = after_one (book_with book first.ask first.tell) history entry
 
-legal_one : (b : BookView) (h : List BookEntry) (e : BookEntry) → BookLegal b h → IsRight (book_after b h) e.ask e.tell → BookLegal b (h ++ e ∷ [])
-legal_one b [] e l r = (r, tt)
-legal_one b (x ∷ h) e l r = (l.0, legal_one (book_with b x.ask x.tell) h e l.1 r)
+legal_one : (book : BookView) (history : List BookEntry) (entry : BookEntry) → BookLegal book history → IsRight (book_after book history) entry.ask entry.tell → BookLegal book (history ++ entry ∷ [])
+legal_one book [] entry legal result = (result, tt)
+legal_one book (first ∷ history) entry legal result = (legal.0, legal_one (book_with book first.ask first.tell) history entry legal.1 result)
 
-pub shape_stays : (b : BookView) (ask : BookAsk) (tell : BookTell) → (book_with b ask tell).shape ≡ b.shape
-shape_stays b (Report user demand) (Reported (Ok made)) = refl
-shape_stays b (Report user demand) (Reported (Err end)) = refl
-shape_stays b (Report user demand) (Shared answer) = refl
-shape_stays b (Report user demand) (Ticked told spent) = refl
-shape_stays b (Share user) tell = refl
-shape_stays b (Tick report) (Reported answer) = refl
-shape_stays b (Tick report) (Shared answer) = refl
-shape_stays b (Tick report) (Ticked told true) = refl
-shape_stays b (Tick report) (Ticked told false) = refl
+pub shape_stays : (book : BookView) (ask : BookAsk) (tell : BookTell) → (book_with book ask tell).shape ≡ book.shape
+shape_stays book (Report user demand) (Reported (Ok made)) = refl
+shape_stays book (Report user demand) (Reported (Err end)) = refl
+shape_stays book (Report user demand) (Shared answer) = refl
+shape_stays book (Report user demand) (Ticked told spent) = refl
+shape_stays book (Share user) tell = refl
+shape_stays book (Tick report) (Reported answer) = refl
+shape_stays book (Tick report) (Shared answer) = refl
+shape_stays book (Tick report) (Ticked told true) = refl
+shape_stays book (Tick report) (Ticked told false) = refl
 
 -- an answer that is right of the book is right of its history
-pub right_of : (b : BookView) (ask : BookAsk) (tell : BookTell) (h : List BookEntry) → StandsFor b h → IsRight b ask tell → IsRight (book_after (opening_book b.shape) h) ask tell
-right_of b ask tell h s right = subst (λ (x : BookView). IsRight x ask tell) s.became right
+pub right_of : (book : BookView) (ask : BookAsk) (tell : BookTell) (history : List BookEntry) → StandsFor book history → IsRight book ask tell → IsRight (book_after (opening_book book.shape) history) ask tell
+right_of book ask tell history stands right = subst (λ (state : BookView). IsRight state ask tell) stands.became right
 
-pub stands_more : (b c : BookView) (ask : BookAsk) (tell : BookTell) (h : List BookEntry) → StandsFor b h → c ≡ book_with b ask tell → IsRight b ask tell → StandsFor c (h ++ entry_of ask tell ∷ [])
-stands_more b c ask tell h s now right =
-    let e : BookEntry = entry_of ask tell in
-    let start : BookView = opening_book b.shape in
-    let shape : c.shape ≡ b.shape = ap (λ (x : BookView). x.shape) now ∙ shape_stays b ask tell in
-    let became : c ≡ book_after start (h ++ e ∷ []) = now ∙ (ap (λ (x : BookView). book_with x ask tell) s.became ∙ sym (after_one start h e)) in
+pub stands_more : (book later : BookView) (ask : BookAsk) (tell : BookTell) (history : List BookEntry) → StandsFor book history → later ≡ book_with book ask tell → IsRight book ask tell → StandsFor later (history ++ entry_of ask tell ∷ [])
+stands_more book later ask tell history stands now right =
+    let entry : BookEntry = entry_of ask tell in
+    let start : BookView = opening_book book.shape in
+    let shape : later.shape ≡ book.shape = ap (λ (state : BookView). state.shape) now ∙ shape_stays book ask tell in
+    let became : later ≡ book_after start (history ++ entry ∷ []) = now ∙ (ap (λ (state : BookView). book_with state ask tell) stands.became ∙ sym (after_one start history entry)) in
     record {
-      legal = subst (λ (sh : Shape). BookLegal (opening_book sh) (h ++ e ∷ [])) (sym shape) (legal_one start h e s.legal (right_of b ask tell h s right));
-      became = subst (λ (sh : Shape). c ≡ book_after (opening_book sh) (h ++ e ∷ [])) (sym shape) became;
+      legal = subst (λ (shape_then : Shape). BookLegal (opening_book shape_then) (history ++ entry ∷ [])) (sym shape) (legal_one start history entry stands.legal (right_of book ask tell history stands right));
+      became = subst (λ (shape_then : Shape). later ≡ book_after (opening_book shape_then) (history ++ entry ∷ [])) (sym shape) became;
     }
 
-pub report_leaves : (b c : BookView) (user demand : ℕ) (r : Result ℕ ReportEnd) → OnOk r (c ≡ reported b user demand) → OnErr r (c ≡ b) → c ≡ book_with b (Report user demand) (Reported r)
-report_leaves b c user demand (Ok made) ok err = ok
-report_leaves b c user demand (Err end) ok err = err
+pub report_leaves : (book later : BookView) (user demand : ℕ) (result : Result ℕ ReportEnd) → OnOk result (later ≡ reported book user demand) → OnErr result (later ≡ book) → later ≡ book_with book (Report user demand) (Reported result)
+report_leaves book later user demand (Ok made) ok err = ok
+report_leaves book later user demand (Err end) ok err = err
 
 -- a new book stands for no call
-pub stands_new : (b : BookView) (shape : Shape) → b ≡ opening_book shape → StandsFor b []
-stands_new b shape opens = rw opens (record { legal = tt; became = refl })
+pub stands_new : (book : BookView) (shape : Shape) → book ≡ opening_book shape → StandsFor book []
+stands_new book shape opens = rw opens (record { legal = tt; became = refl })
 
 -- ---- a quantum, or none
-module _ (b c : BookView) (report told : Told) where
-  pub tick_leaves : (r : Result (Unit {0}) QuantaSpent) → OnOk r (c ≡ ticked b) → OnErr r (c ≡ b) → c ≡ book_with b (Tick report) (Ticked told (is_err r))
-  tick_leaves (Ok u) made kept = made
+module _ (book later : BookView) (report told : Told) where
+  pub tick_leaves : (result : Result (Unit {0}) QuantaSpent) → OnOk result (later ≡ ticked book) → OnErr result (later ≡ book) → later ≡ book_with book (Tick report) (Ticked told (is_err result))
+  tick_leaves (Ok done) made kept = made
   tick_leaves (Err spent) made kept = kept
 
-  pub tick_answers : (r : Result (Unit {0}) QuantaSpent) → (IsErr r ↔ (2 ^ 28 ≤ b.quanta)) → OnOk r (c ≡ ticked b) → OnErr r (told ≡ report)
-      → OnOk r (told ≡ record { quantum = b.quanta; rows = c.rows }) → AnswersTick b report told (is_err r)
-  tick_answers (Ok u) spent made untold new = record {
+  pub tick_answers : (result : Result (Unit {0}) QuantaSpent) → (IsErr result ↔ (QUANTA ≤ book.quanta)) → OnOk result (later ≡ ticked book) → OnErr result (told ≡ report)
+      → OnOk result (told ≡ record { quantum = book.quanta; rows = later.rows }) → AnswersTick book report told (is_err result)
+  tick_answers (Ok done) spent made untold new = record {
     exactly = spent;
-    untold = λ t. absurd (false≢true t);
-    quantum = λ f. ap (λ (t : Told). t.quantum) new;
-    rows = λ f. ap (λ (t : Told). t.rows) new ∙ ap (λ (x : BookView). x.rows) made;
+    untold = λ told_then. absurd (false≢true told_then);
+    quantum = λ made_one. ap (λ (told_then : Told). told_then.quantum) new;
+    rows = λ made_one. ap (λ (told_then : Told). told_then.rows) new ∙ ap (λ (state : BookView). state.rows) made;
   }
   tick_answers (Err end) spent made untold new = record {
     exactly = spent;
-    untold = λ t. untold;
-    quantum = λ f. absurd (true≢false f);
-    rows = λ f. absurd (true≢false f);
+    untold = λ told_then. untold;
+    quantum = λ made_one. absurd (true≢false made_one);
+    rows = λ made_one. absurd (true≢false made_one);
   }

@@ -1,10 +1,12 @@
 -- Which histories a demand book can have, by their entries alone.
-use Rattle.std.specs.Prelude.{◌≡◌, ◌==◌, ℕ, ◌<◌, ◌≤◌, ◌^◌, ◌↔◌, Bool, true, false, List, [], ◌∷◌, length, slice_get, Ok, Err, Some, None, IsNone, IfSome}
+use Rattle.std.specs.Prelude.{◌≡◌, ◌==◌, ℕ, ◌<◌, ◌≤◌, ◌↔◌, Bool, true, false, List, [], ◌∷◌, length, slice_get, Ok, Err, Some, IsNone, IfSome}
 use Rattle.std.specs.declared.option.Option.{Option}
 use Rattle.std.specs.declared.result.Result.{Result}
 use Rattle.karma_rule.specs.declared.row.Row.{Row}
 use Rattle.karma_rule.specs.declared.shape.Shape.{Shape}
+use Rattle.karma_rule.specs.declared.limits.TheConstants.{MOST_DEMAND}
 use Rattle.karma_rule.specs.Karma.{karma}
+use Rattle.demand_book.specs.declared.book.TheConstants.{QUANTA}
 use Rattle.demand_book.specs.declared.book.ReportEnd.{ReportEnd}
 use Rattle.demand_book.specs.declared.book.ReportEnd.TheVariants.{AbsentUser, TooMuch}
 use Rattle.demand_book.specs.declared.report.Report.{Report as Told}
@@ -35,22 +37,22 @@ book_with book _ _ = book
 
 abbrev pub book_after : BookView → List BookEntry → BookView
 book_after book [] = book
-book_after book (e ∷ h) = book_after (book_with book e.ask e.tell) h
+book_after book (entry ∷ history) = book_after (book_with book entry.ask entry.tell) history
 
--- A report for nobody is refused first, then one above 2^42. One that is taken tells how many quanta were made.
+-- A report for nobody is refused first, then one above the greatest demand. One that is taken tells how many quanta were made.
 pub record AnswersReport (book : BookView) (user demand : ℕ) (answer : Result ℕ ReportEnd) : Type 0 where
   pub absent : book.shape.users ≤ user → answer ≡ Err (AbsentUser book.shape.users)
-  pub too_much : user < book.shape.users → 2 ^ 42 < demand → answer ≡ Err (TooMuch (2 ^ 42))
-  pub taken : user < book.shape.users → demand ≤ 2 ^ 42 → answer ≡ Ok book.quanta
+  pub too_much : user < book.shape.users → MOST_DEMAND < demand → answer ≡ Err (TooMuch MOST_DEMAND)
+  pub taken : user < book.shape.users → demand ≤ MOST_DEMAND → answer ≡ Ok book.quanta
 
 -- the user's row: standing demand, credits, and what the last quantum gave
 pub record AnswersShare (book : BookView) (user : ℕ) (answer : Option Row) : Type 0 where
   pub absent : IsNone answer ↔ (book.shape.users ≤ user)
   pub row : IfSome answer (λ row. slice_get book.rows user ≡ Some row)
 
--- All is spent exactly after 2^28 quanta, and then the report comes back as it was. Else it has the quantum's number, and Karma's rows.
+-- All is spent exactly after the last quantum, and then the report comes back as it was. Else it has the quantum's number, and Karma's rows.
 pub record AnswersTick (book : BookView) (report told : Told) (spent : Bool) : Type 0 where
-  pub exactly : (spent ≡ true) ↔ (2 ^ 28 ≤ book.quanta)
+  pub exactly : (spent ≡ true) ↔ (QUANTA ≤ book.quanta)
   pub untold : spent ≡ true → told ≡ report
   pub quantum : spent ≡ false → told.quantum ≡ book.quanta
   pub rows : spent ≡ false → told.rows ≡ karma book.rows book.shape.share
@@ -65,9 +67,9 @@ IsRight book _ _ = ⊥
 -- each answer of the history is right at its place
 abbrev pub BookLegal : BookView → List BookEntry → Type 0
 BookLegal book [] = Unit {0}
-BookLegal book (e ∷ h) = IsRight book e.ask e.tell × BookLegal (book_with book e.ask e.tell) h
+BookLegal book (entry ∷ history) = IsRight book entry.ask entry.tell × BookLegal (book_with book entry.ask entry.tell) history
 
 -- the history is that of a new book, and the book is what it became
-pub record StandsFor (book : BookView) (h : List BookEntry) : Type 0 where
-  pub legal : BookLegal (opening_book book.shape) h
-  pub became : book ≡ book_after (opening_book book.shape) h
+pub record StandsFor (book : BookView) (history : List BookEntry) : Type 0 where
+  pub legal : BookLegal (opening_book book.shape) history
+  pub became : book ≡ book_after (opening_book book.shape) history

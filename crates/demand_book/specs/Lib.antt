@@ -1,4 +1,6 @@
-pub mod Overwritten
+-- what contracts see of a book, and what its calls leave
 pub mod Book
+-- what holds of every book
 pub mod Inside
+-- which histories a book can have
 pub mod BookLegal

@@ -1,5 +1,4 @@
 //! The book as an object, which many threads may call by a turn cell.
-ghost use Rattle.std.specs.Prelude.{◌≡◌, [], IfOk};
 
 use crate::book::{Book, ReportEnd};
 use crate::report::Report;
@@ -57,9 +56,9 @@ impl Object for Book {
 
     ghost entry = { λ before ask tell after. entry_of ask tell };
 
-    ghost moving = { λ e. false };
+    ghost moving = { λ entry. false };
 
-    ghost answers = { λ shape h ask tell. IsRight (book_after (opening_book shape) h) ask tell };
+    ghost answers = { λ shape history ask tell. IsRight (book_after (opening_book shape) history) ask tell };
 
     fn key(&self) -> Shape {
         self.shape()

@@ -1,6 +1,8 @@
-ghost use Rattle.std.specs.Prelude.{◌≡◌, ◌<◌, ◌≤◌, ◌^◌, ◌↔◌, Ok, Err, IfOk, OnOk, OnErr, IsErr, IsNone, IfSome, Some, length, slice_get, All};
+//! The book's rows over its calls: demands that stand, and one quantum after another.
+
+ghost use Rattle.std.specs.Prelude.{◌≡◌, ◌<◌, ◌≤◌, ◌↔◌, Ok, Err, IfOk, OnOk, OnErr, IsErr, IsNone, IfSome, Some, length, slice_get};
 ghost use Rattle.karma_rule.specs.Limits.{IsPlan};
-ghost use Rattle.karma_rule.specs.Laws.{total_given, usable, IsLevelled};
+ghost use Rattle.karma_rule.specs.Quanta.{MakesQuantum};
 
 use crate::report::Report;
 use crate::rows::Rows;
@@ -25,10 +27,10 @@ pub enum ReportEnd {
 
 impl fmt::Display for ReportEnd {
     fn fmt<W: fmt::Write>(&self, f: &mut fmt::Formatter<W>) -> fmt::Result {
-        f.write_str(match self {
-            ReportEnd::AbsentUser { users: _ } => "there is no such user",
-            ReportEnd::TooMuch { limit: _ } => "the demand is above the limit",
-        })
+        match self {
+            ReportEnd::AbsentUser { users } => write!(f, "there is no such user among {users}"),
+            ReportEnd::TooMuch { limit } => write!(f, "the demand is above {limit}"),
+        }
     }
 }
 
@@ -106,7 +108,7 @@ impl Book {
     /// How many quanta were made.
     pub fn quanta(&self) -> u32
         ensures quanta { result ≡ self.now.quanta }
-        ensures within { result ≤ 2 ^ 28 }
+        ensures within { result ≤ QUANTA }
     {
         self.quanta
     }
@@ -114,8 +116,9 @@ impl Book {
     /// Makes `demand` the user's demand until its next report, and says how many quanta were made before.
     pub fn report(&mut self, user: u32, demand: u64) -> Result<u32, ReportEnd>
         ensures absent { self.old.shape.users ≤ user → result ≡ Err (ReportEnd.AbsentUser self.old.shape.users) }
-        ensures too_much { user < self.old.shape.users → 2 ^ 42 < demand → result ≡ Err (ReportEnd.TooMuch (2 ^ 42)) }
-        ensures taken { user < self.old.shape.users → demand ≤ 2 ^ 42 → result ≡ Ok self.old.quanta }
+        ensures too_much { user < self.old.shape.users → MOST_DEMAND < demand
+            → result ≡ Err (ReportEnd.TooMuch MOST_DEMAND) }
+        ensures taken { user < self.old.shape.users → demand ≤ MOST_DEMAND → result ≡ Ok self.old.quanta }
         ensures stands { OnOk result (self.new ≡ reported self.old user demand) }
         ensures kept { OnErr result (self.new ≡ self.old) }
     {
@@ -143,18 +146,14 @@ impl Book {
     /// Makes the next quantum of the standing demands, and tells it in `out`.
     pub fn tick(&mut self, out: &mut Report) -> Result<(), QuantaSpent>
         requires { length out.old.rows ≡ self.old.shape.users }
-        ensures spent { IsErr result ↔ (2 ^ 28 ≤ self.old.quanta) }
+        ensures spent { IsErr result ↔ (QUANTA ≤ self.old.quanta) }
         ensures kept { OnErr result (self.new ≡ self.old) }
         ensures untold { OnErr result (out.new ≡ out.old) }
         ensures made { OnOk result (self.new ≡ ticked self.old) }
         ensures told { OnOk result (out.new ≡ record { quantum = self.old.quanta; rows = self.new.rows }) }
         ensures fits { length out.new.rows ≡ self.new.shape.users }
-
-        // The laws of the rule: nothing beyond what there is or is wanted, and all of it where nobody who wants more
-        // is out of credits.
-        ensures within { OnOk result (total_given out.new.rows ≤ usable self.old.rows self.old.shape.share) }
-        ensures used { OnOk result (All (λ row. row.given < row.demand → 0 < row.credits) out.new.rows → total_given out.new.rows ≡ usable self.old.rows self.old.shape.share) }
-        ensures levelled { OnOk result (IsLevelled self.old.rows out.new.rows self.old.shape.share) }
+        // The rows that are told are Karma's, and keep the laws of the rule.
+        ensures karma { OnOk result (MakesQuantum self.old.rows out.new.rows self.old.shape.share) }
     {
         if self.quanta == QUANTA {
             return Err(QuantaSpent);

@@ -1,3 +1,5 @@
+//! A quantum as it is told.
+
 ghost use Rattle.std.specs.Prelude.{◌≡◌, IfOk, replicate};
 
 use crate::rows::Rows;

@@ -1,7 +1,9 @@
-use crate::{Book, BookAsk, BookTell, Report, Rows};
-use karma_rule::{Row, Shape};
+//! Quanta of a small book, and the limits by their numbers.
+
+use crate::{Book, BookAsk, BookTell, QUANTA, Report, Rows};
+use karma_rule::{MOST_DEMAND, Row, Shape};
 use std::test::Fail;
-use turn_cell::{Object, TurnCell};
+use turn_cell::Object;
 
 fn row(demand: u64, credits: u64, given: u64) -> Row {
     Row {
@@ -11,16 +13,25 @@ fn row(demand: u64, credits: u64, given: u64) -> Row {
     }
 }
 
+/// The next quantum after these demands, each with its user. It has no contract, so that a test's proof carries none of
+/// the book's.
+fn quantum_after(
+    rt: &HostRuntime,
+    book: &mut Book,
+    demands: &[(u32, u64)],
+) -> Result<Report, Fail> {
+    for (user, demand) in demands {
+        book.report(*user, *demand)?;
+    }
+    let mut report = Report::new(rt.alloc(), book.users())?;
+    book.tick(&mut report)?;
+    Ok(report)
+}
+
 #[test]
 fn demands_stand_and_credits_go_on(rt: HostRuntime) -> Result<(), Fail> {
-    let shape = Shape::plan(3, 2, 1, 5)?;
-    let mut book = Book::new(rt.alloc(), shape)?;
-    let mut report = Report::new(rt.alloc(), 3)?;
-    assert_eq!(rt; report.rows.items().len(), 3);
-    book.report(0, 3)?;
-    book.report(1, 2)?;
-    assert_eq!(rt; book.report(2, 1)?, 0);
-    book.tick(&mut report)?;
+    let mut book = Book::new(rt.alloc(), Shape::plan(3, 2, 1, 5)?)?;
+    let report = quantum_after(&rt, &mut book, &[(0, 3), (1, 2), (2, 1)])?;
     assert_eq!(rt; report.quantum, 0);
     assert_eq!(rt;
         report.rows.items(),
@@ -28,9 +39,7 @@ fn demands_stand_and_credits_go_on(rt: HostRuntime) -> Result<(), Fail> {
     );
 
     // User 0's demand stands.
-    book.report(1, 0)?;
-    assert_eq!(rt; book.report(2, 0)?, 1);
-    book.tick(&mut report)?;
+    let report = quantum_after(&rt, &mut book, &[(1, 0), (2, 0)])?;
     assert_eq!(rt; report.quantum, 1);
     assert_eq!(rt;
         report.rows.items(),
@@ -38,6 +47,12 @@ fn demands_stand_and_credits_go_on(rt: HostRuntime) -> Result<(), Fail> {
     );
     assert_eq!(rt; book.share(1), Some(row(0, 7, 0)));
     Ok(())
+}
+
+#[test]
+fn limits_by_their_numbers(rt: HostRuntime) {
+    assert_eq!(rt; QUANTA, 268_435_456);
+    assert_eq!(rt; MOST_DEMAND, 4_398_046_511_104);
 }
 
 #[test]
@@ -52,32 +67,8 @@ fn rows_from_a_vector(rt: HostRuntime) -> Result<(), Fail> {
 }
 
 #[test]
-fn two_passes_call_one_book(rt: HostRuntime) -> Result<(), Fail> {
-    let shape = Shape::plan(2, 2, 1, 5)?;
-    let book = Book::new(rt.alloc(), shape)?;
-    let (cell, mut first) = TurnCell::new(rt.alloc(), book)?;
-    let Ok(mut second) = first.split(&cell) else {
-        panic!(rt; "there are passes")
-    };
-    let ask = BookAsk::Report { user: 0, demand: 3 };
-    let BookTell::Report(told) = cell.call(&rt, &mut second, ask) else {
-        panic!(rt; "a report is answered")
-    };
-    assert_eq!(rt; told, Ok(0));
-    let mut all = first.join(second, &cell);
-    let BookTell::Share(share) = cell.call(&rt, &mut all, BookAsk::Share { user: 0 }) else {
-        panic!(rt; "a share is told")
-    };
-    assert_eq!(rt; share, Some(row(3, 5, 0)));
-    let (book, _shown) = cell.close(all);
-    assert_eq!(rt; book.share(0), Some(row(3, 5, 0)));
-    Ok(())
-}
-
-#[test]
 fn ticks_tell_a_report(rt: HostRuntime) -> Result<(), Fail> {
-    let shape = Shape::plan(2, 2, 1, 5)?;
-    let mut book = Book::new(rt.alloc(), shape)?;
+    let mut book = Book::new(rt.alloc(), Shape::plan(2, 2, 1, 5)?)?;
     book.report(0, 3)?;
     let short = BookAsk::Tick {
         report: Report::new(rt.alloc(), 1)?,
@@ -86,7 +77,10 @@ fn ticks_tell_a_report(rt: HostRuntime) -> Result<(), Fail> {
     let ask = BookAsk::Tick {
         report: Report::new(rt.alloc(), 2)?,
     };
-    assert!(rt; Book::fits(book.key(), &ask) && !Book::is_move(&ask));
+    assert!(rt; !Book::is_move(&ask));
+    if !Book::fits(book.key(), &ask) {
+        panic!(rt; "a report of two rows fits")
+    }
     let BookTell::Tick { report, spent } = book.apply(ask) else {
         panic!(rt; "a tick is answered")
     };

@@ -1,10 +1,11 @@
 -- Two spreads in order, of the borrowers and of the donors, are the rule's closing.
-use Rattle.std.proofs.Common.{◌≡◌, ℕ, zero, suc, ◌+◌, ◌-◌, ◌*◌, ◌^◌, ◌<◌, ◌≤◌, min, ◌⊎◌, inl, inr, List, [], ◌∷◌, length, get_or, map, sum, refl, sym, ap, ◌∙◌, subst, arith, mul-le-mul}
+use Rattle.std.proofs.Common.{◌≡◌, ℕ, zero, suc, ◌+◌, ◌-◌, ◌*◌, ◌<◌, ◌≤◌, min, ◌⊎◌, inl, inr, List, [], ◌∷◌, length, get_or, map, sum, refl, sym, ap, ◌∙◌, subst, arith, mul-le-mul}
 use Rattle.std.specs.List.{sum_by, All}
 use Rattle.std.proofs.lemmas.List.{get_or-map, length-map}
 use Rattle.std.proofs.lemmas.List.Sums.{sum_by-cons}
 use Rattle.std.proofs.lemmas.List.Elements.{All-from_get_or, All-get_or}
 use Rattle.std.proofs.lemmas.Bool.{cases_lt}
+use Rattle.karma_rule.specs.declared.limits.TheConstants.{MOST_USERS, MOST_FAIR, MOST_DEMAND, CREDITS_TOP}
 use Rattle.karma_rule.specs.declared.row.Row.{Row}
 use Rattle.karma_rule.specs.declared.row.Share.{Share}
 use Rattle.karma_batch.specs.declared.side.Side.{Side}
@@ -12,7 +13,7 @@ use Rattle.karma_batch.specs.declared.side.Side.TheVariants.{Borrowers, Donors}
 use Rattle.karma_rule.specs.Karma.{User, opened, closing}
 use Rattle.karma_rule.specs.Laws.{row_at}
 use Rattle.karma_rule.specs.OpenRow.{user_of, quantum_of, IsOpenRow}
-use Rattle.karma_batch.specs.Levels.{key_of, room_of, moved_by, above, all_moved, IsSpread, Spreads}
+use Rattle.karma_batch.specs.Levels.{key_of, movable_of, moved_by, above, all_moved, IsSpread, Spreads}
 use Rattle.karma_rule.proofs.Loans.{nobody}
 use Rattle.karma_rule.proofs.OneLoan.{at, NeedsOne}
 use Rattle.karma_rule.proofs.InOrder.{Apart, Since, InOrder}
@@ -21,307 +22,307 @@ use Rattle.karma_rule.proofs.RowsOfUsers.{no_row}
 use Rattle.karma_rule.proofs.Counts.{left_sum, can_take, takable, ending_is}
 
 abbrev pub num_at : List ℕ → ℕ → ℕ
-num_at ns k = get_or ns k 0
+num_at numbers place = get_or numbers place 0
 
 -- ---- sums of lists that go together
-pub sum_by-more : {X Y : Type 0} (f : X → ℕ) (g : Y → ℕ) (xs : List X) (ys : List Y) (ns : List ℕ) (a : X) (b : Y) → length xs ≡ length ys → length ns ≡ length xs → ((k : ℕ) → k < length xs → g (get_or ys k b) ≡ f (get_or xs k a) + num_at ns k) → sum_by g ys ≡ sum_by f xs + sum ns
-sum_by-more f g [] [] [] a b e l h = omega arith
-sum_by-more f g [] [] (n ∷ ns) a b e l h = absurd (omega arith)
-sum_by-more f g [] (y ∷ ys) ns a b e l h = absurd (omega arith)
-sum_by-more f g (x ∷ xs) [] ns a b e l h = absurd (omega arith)
-sum_by-more f g (x ∷ xs) (y ∷ ys) [] a b e l h = absurd (omega arith)
-sum_by-more f g (x ∷ xs) (y ∷ ys) (n ∷ ns) a b e l h =
-    let head : g y ≡ f x + n = h 0 (omega arith) in
-    let tail : sum_by g ys ≡ sum_by f xs + sum ns = sum_by-more f g xs ys ns a b (omega arith) (omega arith) (λ k m. h (suc k) (omega arith)) in
-    omega (arith, sum_by-cons f x xs, sum_by-cons g y ys, sum_by-cons (λ (m : ℕ). m) n ns)
+pub sum_by-more : {X Y : Type 0} (f : X → ℕ) (g : Y → ℕ) (xs : List X) (ys : List Y) (numbers : List ℕ) (no_x : X) (no_y : Y) → length xs ≡ length ys → length numbers ≡ length xs → ((place : ℕ) → place < length xs → g (get_or ys place no_y) ≡ f (get_or xs place no_x) + num_at numbers place) → sum_by g ys ≡ sum_by f xs + sum numbers
+sum_by-more f g [] [] [] no_x no_y same_length same_count each = omega arith
+sum_by-more f g [] [] (number ∷ numbers) no_x no_y same_length same_count each = absurd (omega arith)
+sum_by-more f g [] (y ∷ ys) numbers no_x no_y same_length same_count each = absurd (omega arith)
+sum_by-more f g (x ∷ xs) [] numbers no_x no_y same_length same_count each = absurd (omega arith)
+sum_by-more f g (x ∷ xs) (y ∷ ys) [] no_x no_y same_length same_count each = absurd (omega arith)
+sum_by-more f g (x ∷ xs) (y ∷ ys) (number ∷ numbers) no_x no_y same_length same_count each =
+    let head : g y ≡ f x + number = each 0 (omega arith) in
+    let tail : sum_by g ys ≡ sum_by f xs + sum numbers = sum_by-more f g xs ys numbers no_x no_y (omega arith) (omega arith) (λ place item. each (suc place) (omega arith)) in
+    omega (arith, sum_by-cons f x xs, sum_by-cons g y ys, sum_by-cons (λ (item : ℕ). item) number numbers)
 
-pub sum_by-same : {X Y : Type 0} (f : X → ℕ) (g : Y → ℕ) (xs : List X) (ys : List Y) (a : X) (b : Y) → length xs ≡ length ys → ((k : ℕ) → k < length xs → g (get_or ys k b) ≡ f (get_or xs k a)) → sum_by g ys ≡ sum_by f xs
-sum_by-same f g [] [] a b e h = refl
-sum_by-same f g [] (y ∷ ys) a b e h = absurd (omega arith)
-sum_by-same f g (x ∷ xs) [] a b e h = absurd (omega arith)
-sum_by-same f g (x ∷ xs) (y ∷ ys) a b e h =
-    let head : g y ≡ f x = h 0 (omega arith) in
-    let tail : sum_by g ys ≡ sum_by f xs = sum_by-same f g xs ys a b (omega arith) (λ k m. h (suc k) (omega arith)) in
+pub sum_by-same : {X Y : Type 0} (f : X → ℕ) (g : Y → ℕ) (xs : List X) (ys : List Y) (no_x : X) (no_y : Y) → length xs ≡ length ys → ((place : ℕ) → place < length xs → g (get_or ys place no_y) ≡ f (get_or xs place no_x)) → sum_by g ys ≡ sum_by f xs
+sum_by-same f g [] [] no_x no_y same_length each = refl
+sum_by-same f g [] (y ∷ ys) no_x no_y same_length each = absurd (omega arith)
+sum_by-same f g (x ∷ xs) [] no_x no_y same_length each = absurd (omega arith)
+sum_by-same f g (x ∷ xs) (y ∷ ys) no_x no_y same_length each =
+    let head : g y ≡ f x = each 0 (omega arith) in
+    let tail : sum_by g ys ≡ sum_by f xs = sum_by-same f g xs ys no_x no_y (omega arith) (λ place inside. each (suc place) (omega arith)) in
     omega (arith, sum_by-cons f x xs, sum_by-cons g y ys)
 
 -- ---- rows moved
-length-all_moved : (side : Side) (rows : List Row) (ns : List ℕ) → length (all_moved side rows ns) ≡ length rows
-length-all_moved side [] ns = refl
+length-all_moved : (side : Side) (rows : List Row) (numbers : List ℕ) → length (all_moved side rows numbers) ≡ length rows
+length-all_moved side [] numbers = refl
 length-all_moved side (x ∷ xs) [] = refl
-length-all_moved side (x ∷ xs) (n ∷ ns) = ap suc (length-all_moved side xs ns)
+length-all_moved side (x ∷ xs) (number ∷ numbers) = ap suc (length-all_moved side xs numbers)
 
-at-all_moved : (side : Side) (rows : List Row) (ns : List ℕ) (k : ℕ) → length ns ≡ length rows → k < length rows → row_at (all_moved side rows ns) k ≡ moved_by side (row_at rows k) (num_at ns k)
-at-all_moved side [] ns k e l = absurd (omega arith)
-at-all_moved side (x ∷ xs) [] k e l = absurd (omega arith)
-at-all_moved side (x ∷ xs) (n ∷ ns) zero e l = refl
-at-all_moved side (x ∷ xs) (n ∷ ns) (suc k) e l = at-all_moved side xs ns k (omega arith) (omega arith)
+at-all_moved : (side : Side) (rows : List Row) (numbers : List ℕ) (place : ℕ) → length numbers ≡ length rows → place < length rows → row_at (all_moved side rows numbers) place ≡ moved_by side (row_at rows place) (num_at numbers place)
+at-all_moved side [] numbers place same_length inside = absurd (omega arith)
+at-all_moved side (x ∷ xs) [] place same_length inside = absurd (omega arith)
+at-all_moved side (x ∷ xs) (number ∷ numbers) zero same_length inside = refl
+at-all_moved side (x ∷ xs) (number ∷ numbers) (suc place) same_length inside = at-all_moved side xs numbers place (omega arith) (omega arith)
 
 -- ---- one row, from its opening: b borrowed, l lent
-pub record IsOpened (floor : ℕ) (r : Row) : Type 0 where
-  pub filled : r.given ≡ min r.demand floor
-  pub small : r.demand ≤ 2 ^ 42
-  pub room : r.credits + (floor - r.given) < 2 ^ 63
+pub record IsOpened (floor : ℕ) (row : Row) : Type 0 where
+  pub filled : row.given ≡ min row.demand floor
+  pub small : row.demand ≤ MOST_DEMAND
+  pub room : row.credits + (floor - row.given) < CREDITS_TOP
 
-pub record Both (floor : ℕ) (r : Row) (b l : ℕ) : Type 0 where
-  pub start : IsOpened floor r
-  pub borrows : b ≤ room_of Borrowers floor r
-  pub lends : l ≤ room_of Donors floor (moved_by Borrowers r b)
+pub record Both (floor : ℕ) (row : Row) (borrowed lent : ℕ) : Type 0 where
+  pub start : IsOpened floor row
+  pub borrows : borrowed ≤ movable_of Borrowers floor row
+  pub lends : lent ≤ movable_of Donors floor (moved_by Borrowers row borrowed)
 
 abbrev pub done : Row → ℕ → ℕ → Row
-done r b l = moved_by Donors (moved_by Borrowers r b) l
+done row borrowed lent = moved_by Donors (moved_by Borrowers row borrowed) lent
 
 -- who borrows lends nothing
-one_part : (floor : ℕ) (r : Row) (b l : ℕ) → Both floor r b l → (b ≡ 0) ⊎ ((l ≡ 0) × (0 < b) × (r.given ≡ floor))
-one_part floor r b l h = one_part_by (cases_lt 0 b)
+one_part : (floor : ℕ) (row : Row) (borrowed lent : ℕ) → Both floor row borrowed lent → (borrowed ≡ 0) ⊎ ((lent ≡ 0) × (0 < borrowed) × (row.given ≡ floor))
+one_part floor row borrowed lent both = one_part_by (cases_lt 0 borrowed)
   where
-    one_part_by : (0 < b) ⊎ (b ≤ 0) → (b ≡ 0) ⊎ ((l ≡ 0) × (0 < b) × (r.given ≡ floor))
-    one_part_by (inr m) = inl (omega arith)
-    one_part_by (inl m) = inr (omega (arith, h.start.filled, h.borrows, h.lends), m, omega (arith, h.start.filled, h.borrows))
+    one_part_by : (0 < borrowed) ⊎ (borrowed ≤ 0) → (borrowed ≡ 0) ⊎ ((lent ≡ 0) × (0 < borrowed) × (row.given ≡ floor))
+    one_part_by (inr some) = inl (omega arith)
+    one_part_by (inl some) = inr (omega (arith, both.start.filled, both.borrows, both.lends), some, omega (arith, both.start.filled, both.borrows))
 
-since_both : (floor : ℕ) (r : Row) (b l : ℕ) → Both floor r b l → Since (user_of floor r) (user_of floor (done r b l))
-since_both floor r b l h = since_by (one_part floor r b l h)
+since_both : (floor : ℕ) (row : Row) (borrowed lent : ℕ) → Both floor row borrowed lent → Since (user_of floor row) (user_of floor (done row borrowed lent))
+since_both floor row borrowed lent both = since_by (one_part floor row borrowed lent both)
   where
-    since_by : (b ≡ 0) ⊎ ((l ≡ 0) × (0 < b) × (r.given ≡ floor)) → Since (user_of floor r) (user_of floor (done r b l))
-    since_by (inl e) = record {
+    since_by : (borrowed ≡ 0) ⊎ ((lent ≡ 0) × (0 < borrowed) × (row.given ≡ floor)) → Since (user_of floor row) (user_of floor (done row borrowed lent))
+    since_by (inl idle) = record {
       same_demand = refl;
-      total = omega (arith, h.start.filled, h.lends);
+      total = omega (arith, both.start.filled, both.lends);
       gained = omega arith;
       lent = omega arith;
       capped = λ _. omega arith;
     }
-    since_by (inr w) =
-        let none : l ≡ 0 = w.0 in
-        let full : r.given ≡ floor = w.2 in
+    since_by (inr known) =
+        let none : lent ≡ 0 = known.0 in
+        let full : row.given ≡ floor = known.2 in
         record {
           same_demand = refl;
-          total = omega (arith, h.start.filled, h.borrows);
+          total = omega (arith, both.start.filled, both.borrows);
           gained = omega arith;
           lent = omega arith;
           capped = λ _. omega arith;
         }
 
-has_borrowed : (floor : ℕ) (r : Row) (b l : ℕ) → Both floor r b l → (user_of floor r).row.given < (user_of floor (done r b l)).row.given → (0 < b) × (l ≡ 0)
-has_borrowed floor r b l h g = has_by (one_part floor r b l h)
+has_borrowed : (floor : ℕ) (row : Row) (borrowed lent : ℕ) → Both floor row borrowed lent → (user_of floor row).row.given < (user_of floor (done row borrowed lent)).row.given → (0 < borrowed) × (lent ≡ 0)
+has_borrowed floor row borrowed lent both gained = has_by (one_part floor row borrowed lent both)
   where
-    has_by : (b ≡ 0) ⊎ ((l ≡ 0) × (0 < b) × (r.given ≡ floor)) → (0 < b) × (l ≡ 0)
-    has_by (inl e) = absurd (omega (arith, h.start.filled, h.lends))
-    has_by (inr w) = (w.1, w.0)
+    has_by : (borrowed ≡ 0) ⊎ ((lent ≡ 0) × (0 < borrowed) × (row.given ≡ floor)) → (0 < borrowed) × (lent ≡ 0)
+    has_by (inl idle) = absurd (omega (arith, both.start.filled, both.lends))
+    has_by (inr known) = (known.1, known.0)
 
-needs_more : (floor : ℕ) (r : Row) (b l : ℕ) → Both floor r b l → NeedsOne (user_of floor (done r b l)) → (b < room_of Borrowers floor r) × (l ≡ 0)
-needs_more floor r b l h n =
-    let unmet : min (r.given + b + l) r.demand < r.demand = n.0 in
-    let pays : 0 < (r.credits - b) + l = n.1 in
-    let none : l ≡ 0 = omega (arith, h.start.filled, h.lends) in
+needs_more : (floor : ℕ) (row : Row) (borrowed lent : ℕ) → Both floor row borrowed lent → NeedsOne (user_of floor (done row borrowed lent)) → (borrowed < movable_of Borrowers floor row) × (lent ≡ 0)
+needs_more floor row borrowed lent both needs =
+    let unmet : min (row.given + borrowed + lent) row.demand < row.demand = needs.0 in
+    let pays : 0 < (row.credits - borrowed) + lent = needs.1 in
+    let none : lent ≡ 0 = omega (arith, both.start.filled, both.lends) in
     (omega arith, none)
 
-has_lent : (floor : ℕ) (r : Row) (b l : ℕ) → Both floor r b l → (user_of floor (done r b l)).left < (user_of floor r).left → 0 < l
-has_lent floor r b l h g = has_by (one_part floor r b l h)
+has_lent : (floor : ℕ) (row : Row) (borrowed lent : ℕ) → Both floor row borrowed lent → (user_of floor (done row borrowed lent)).left < (user_of floor row).left → 0 < lent
+has_lent floor row borrowed lent both gave = has_by (one_part floor row borrowed lent both)
   where
-    has_by : (b ≡ 0) ⊎ ((l ≡ 0) × (0 < b) × (r.given ≡ floor)) → 0 < l
-    has_by (inl e) = omega arith
-    has_by (inr w) = let full : r.given ≡ floor = w.2 in absurd (omega arith)
+    has_by : (borrowed ≡ 0) ⊎ ((lent ≡ 0) × (0 < borrowed) × (row.given ≡ floor)) → 0 < lent
+    has_by (inl idle) = omega arith
+    has_by (inr known) = let full : row.given ≡ floor = known.2 in absurd (omega arith)
 
-more_left : (floor : ℕ) (r : Row) (b l : ℕ) → 0 < (user_of floor (done r b l)).left → l < room_of Donors floor (moved_by Borrowers r b)
-more_left floor r b l g = omega arith
+more_left : (floor : ℕ) (row : Row) (borrowed lent : ℕ) → 0 < (user_of floor (done row borrowed lent)).left → lent < movable_of Donors floor (moved_by Borrowers row borrowed)
+more_left floor row borrowed lent some = omega arith
 
-given_both : (floor : ℕ) (r : Row) (b l : ℕ) → Both floor r b l → (user_of floor (done r b l)).row.given ≡ (user_of floor r).row.given + b
-given_both floor r b l h = given_by (one_part floor r b l h)
+given_both : (floor : ℕ) (row : Row) (borrowed lent : ℕ) → Both floor row borrowed lent → (user_of floor (done row borrowed lent)).row.given ≡ (user_of floor row).row.given + borrowed
+given_both floor row borrowed lent both = given_by (one_part floor row borrowed lent both)
   where
-    given_by : (b ≡ 0) ⊎ ((l ≡ 0) × (0 < b) × (r.given ≡ floor)) → (user_of floor (done r b l)).row.given ≡ (user_of floor r).row.given + b
-    given_by (inl e) = omega (arith, h.start.filled, h.lends)
-    given_by (inr w) = let none : l ≡ 0 = w.0 in omega (arith, h.start.filled, h.borrows)
+    given_by : (borrowed ≡ 0) ⊎ ((lent ≡ 0) × (0 < borrowed) × (row.given ≡ floor)) → (user_of floor (done row borrowed lent)).row.given ≡ (user_of floor row).row.given + borrowed
+    given_by (inl idle) = omega (arith, both.start.filled, both.lends)
+    given_by (inr known) = let none : lent ≡ 0 = known.0 in omega (arith, both.start.filled, both.borrows)
 
-left_both : (floor : ℕ) (r : Row) (b l : ℕ) → Both floor r b l → (user_of floor r).left ≡ (user_of floor (done r b l)).left + l
-left_both floor r b l h = left_by (one_part floor r b l h)
+left_both : (floor : ℕ) (row : Row) (borrowed lent : ℕ) → Both floor row borrowed lent → (user_of floor row).left ≡ (user_of floor (done row borrowed lent)).left + lent
+left_both floor row borrowed lent both = left_by (one_part floor row borrowed lent both)
   where
-    left_by : (b ≡ 0) ⊎ ((l ≡ 0) × (0 < b) × (r.given ≡ floor)) → (user_of floor r).left ≡ (user_of floor (done r b l)).left + l
-    left_by (inl e) = omega (arith, h.lends)
-    left_by (inr w) = let none : l ≡ 0 = w.0 in let full : r.given ≡ floor = w.2 in omega arith
+    left_by : (borrowed ≡ 0) ⊎ ((lent ≡ 0) × (0 < borrowed) × (row.given ≡ floor)) → (user_of floor row).left ≡ (user_of floor (done row borrowed lent)).left + lent
+    left_by (inl idle) = omega (arith, both.lends)
+    left_by (inr known) = let none : lent ≡ 0 = known.0 in let full : row.given ≡ floor = known.2 in omega arith
 
 -- a donor's key is what its credits lack
-lender_order : (c1 l1 c2 l2 n : ℕ) → c1 + l1 ≤ 2 ^ 63 → ((2 ^ 63 - c2) - l2) ≤ ((2 ^ 63 - c1) - l1) + n → c1 + l1 ≤ (c2 + l2) + n
-lender_order c1 l1 c2 l2 n b h = omega arith
+lender_order : (credits1 lent1 credits2 lent2 slack : ℕ) → credits1 + lent1 ≤ CREDITS_TOP → ((CREDITS_TOP - credits2) - lent2) ≤ ((CREDITS_TOP - credits1) - lent1) + slack → credits1 + lent1 ≤ (credits2 + lent2) + slack
+lender_order credits1 lent1 credits2 lent2 slack bound less = omega arith
 
 -- ---- the opened rows
-opened_row : (share : Share) (r old : Row) → user_of share.floor r ≡ opened share old → IsOpenRow share.floor r → IsOpened share.floor r
-opened_row share r old e w =
-    let given : min r.given r.demand ≡ min old.demand share.floor = ap (λ u. u.row.given) e in
-    let demand : r.demand ≡ old.demand = ap (λ u. u.row.demand) e in
-    let left : share.floor - r.given ≡ share.floor - old.demand = ap (λ u. u.left) e in
-    record { filled = omega (arith, w.wanted, w.filled); small = w.small; room = w.room }
+opened_row : (share : Share) (row old : Row) → user_of share.floor row ≡ opened share old → IsOpenRow share.floor row → IsOpened share.floor row
+opened_row share row old same is_open =
+    let given : min row.given row.demand ≡ min old.demand share.floor = ap (λ user. user.row.given) same in
+    let demand : row.demand ≡ old.demand = ap (λ user. user.row.demand) same in
+    let left : share.floor - row.given ≡ share.floor - old.demand = ap (λ user. user.left) same in
+    record { filled = omega (arith, is_open.wanted, is_open.filled); small = is_open.small; room = is_open.room }
 
-pub opened_rows : (share : Share) (rows0 rows : List Row) → map (user_of share.floor) rows0 ≡ map (opened share) rows → All (IsOpenRow share.floor) rows0 → (k : ℕ) → k < length rows0 → IsOpened share.floor (row_at rows0 k)
-opened_rows share rows0 rows e w k l =
-    let lengths : length rows0 ≡ length rows = sym (length-map rows0 (user_of share.floor)) ∙ ap length e ∙ length-map rows (opened share) in
-    let same : user_of share.floor (row_at rows0 k) ≡ opened share (row_at rows k) =
-    sym (get_or-map (user_of share.floor) rows0 k _ nobody l) ∙ ap (λ us. at us k) e ∙ get_or-map (opened share) rows k _ nobody (omega arith) in
-    opened_row share (row_at rows0 k) (row_at rows k) same (All-get_or (IsOpenRow share.floor) rows0 k _ l w)
+pub opened_rows : (share : Share) (rows0 rows : List Row) → map (user_of share.floor) rows0 ≡ map (opened share) rows → All (IsOpenRow share.floor) rows0 → (place : ℕ) → place < length rows0 → IsOpened share.floor (row_at rows0 place)
+opened_rows share rows0 rows users_are are_open place inside =
+    let lengths : length rows0 ≡ length rows = sym (length-map rows0 (user_of share.floor)) ∙ ap length users_are ∙ length-map rows (opened share) in
+    let same : user_of share.floor (row_at rows0 place) ≡ opened share (row_at rows place) =
+    sym (get_or-map (user_of share.floor) rows0 place _ nobody inside) ∙ ap (λ users. at users place) users_are ∙ get_or-map (opened share) rows place _ nobody (omega arith) in
+    opened_row share (row_at rows0 place) (row_at rows place) same (All-get_or (IsOpenRow share.floor) rows0 place _ inside are_open)
 
 -- at the level 0 a part is the whole room
-pub sum_whole : (side : Side) (floor : ℕ) (rows : List Row) → ((k : ℕ) → k < length rows → room_of side floor (row_at rows k) ≤ key_of side (row_at rows k)) → sum_by (above side floor 0) rows ≡ sum_by (room_of side floor) rows
-sum_whole side floor rows h = sum_by-same (room_of side floor) (above side floor 0) rows rows no_row no_row refl (λ k l. let b : room_of side floor (row_at rows k) ≤ key_of side (row_at rows k) = h k l in omega arith)
+pub sum_whole : (side : Side) (floor : ℕ) (rows : List Row) → ((place : ℕ) → place < length rows → movable_of side floor (row_at rows place) ≤ key_of side (row_at rows place)) → sum_by (above side floor 0) rows ≡ sum_by (movable_of side floor) rows
+sum_whole side floor rows fits = sum_by-same (movable_of side floor) (above side floor 0) rows rows no_row no_row refl (λ place inside. let fit : movable_of side floor (row_at rows place) ≤ key_of side (row_at rows place) = fits place inside in omega arith)
 
-module _ (floor : ℕ) (rows0 : List Row) (start : (k : ℕ) → k < length rows0 → IsOpened floor (row_at rows0 k)) (loans : ℕ) (bs : List ℕ) (sb : IsSpread Borrowers floor loans rows0 bs) where
+module _ (floor : ℕ) (rows0 : List Row) (start : (place : ℕ) → place < length rows0 → IsOpened floor (row_at rows0 place)) (loans : ℕ) (borrows : List ℕ) (borrowers_spread : IsSpread Borrowers floor loans rows0 borrows) where
   abbrev rows1 : List Row
-  rows1 = all_moved Borrowers rows0 bs
+  rows1 = all_moved Borrowers rows0 borrows
 
   len1 : length rows1 ≡ length rows0
-  len1 = length-all_moved Borrowers rows0 bs
+  len1 = length-all_moved Borrowers rows0 borrows
 
-  row1_at : (k : ℕ) → k < length rows0 → row_at rows1 k ≡ moved_by Borrowers (row_at rows0 k) (num_at bs k)
-  row1_at k l = at-all_moved Borrowers rows0 bs k sb.same_length l
+  row1_at : (place : ℕ) → place < length rows0 → row_at rows1 place ≡ moved_by Borrowers (row_at rows0 place) (num_at borrows place)
+  row1_at place inside = at-all_moved Borrowers rows0 borrows place borrowers_spread.same_length inside
 
-  moved_open : (r : Row) (b : ℕ) → IsOpened floor r → b ≤ room_of Borrowers floor r → IsOpenRow floor (moved_by Borrowers r b)
-  moved_open r b o h = record { filled = omega (arith, o.filled); wanted = omega (arith, o.filled, h); small = o.small; room = omega (arith, o.room, h) }
+  moved_open : (row : Row) (slices : ℕ) → IsOpened floor row → slices ≤ movable_of Borrowers floor row → IsOpenRow floor (moved_by Borrowers row slices)
+  moved_open row slices is_opened fits = record { filled = omega (arith, is_opened.filled); wanted = omega (arith, is_opened.filled, fits); small = is_opened.small; room = omega (arith, is_opened.room, fits) }
 
   pub open1 : All (IsOpenRow floor) rows1
-  open1 = All-from_get_or (IsOpenRow floor) rows1 _ (λ k l.
-      let m : k < length rows0 = omega (arith, len1) in
-      subst (λ (r : Row). IsOpenRow floor r) (sym (row1_at k m)) (moved_open (row_at rows0 k) (num_at bs k) (start k m) (sb.within k m)))
+  open1 = All-from_get_or (IsOpenRow floor) rows1 _ (λ place inside.
+      let in_rows : place < length rows0 = omega (arith, len1) in
+      subst (λ (row : Row). IsOpenRow floor row) (sym (row1_at place in_rows)) (moved_open (row_at rows0 place) (num_at borrows place) (start place in_rows) (borrowers_spread.within place in_rows)))
 
-  room_kept : (r : Row) (b : ℕ) → IsOpened floor r → b ≤ room_of Borrowers floor r → room_of Donors floor (moved_by Borrowers r b) ≡ room_of Donors floor r
-  room_kept r b o h = omega (arith, o.filled, h)
+  room_kept : (row : Row) (slices : ℕ) → IsOpened floor row → slices ≤ movable_of Borrowers floor row → movable_of Donors floor (moved_by Borrowers row slices) ≡ movable_of Donors floor row
+  room_kept row slices is_opened fits = omega (arith, is_opened.filled, fits)
 
-  pub lender_room : sum_by (room_of Donors floor) rows1 ≡ sum_by (room_of Donors floor) rows0
-  lender_room = sum_by-same (room_of Donors floor) (room_of Donors floor) rows0 rows1 _ _ (sym len1) (λ k l.
-      ap (room_of Donors floor) (row1_at k l) ∙ room_kept (row_at rows0 k) (num_at bs k) (start k l) (sb.within k l))
+  pub lender_room : sum_by (movable_of Donors floor) rows1 ≡ sum_by (movable_of Donors floor) rows0
+  lender_room = sum_by-same (movable_of Donors floor) (movable_of Donors floor) rows0 rows1 _ _ (sym len1) (λ place inside.
+      ap (movable_of Donors floor) (row1_at place inside) ∙ room_kept (row_at rows0 place) (num_at borrows place) (start place inside) (borrowers_spread.within place inside))
 
-  module _ (lent : ℕ) (ls : List ℕ) (sl : IsSpread Donors floor lent rows1 ls) where
+  module _ (lent : ℕ) (lends : List ℕ) (donors_spread : IsSpread Donors floor lent rows1 lends) where
     abbrev rows2 : List Row
-    rows2 = all_moved Donors rows1 ls
+    rows2 = all_moved Donors rows1 lends
 
     len2 : length rows2 ≡ length rows0
-    len2 = length-all_moved Donors rows1 ls ∙ len1
+    len2 = length-all_moved Donors rows1 lends ∙ len1
 
-    in1 : (k : ℕ) → k < length rows0 → k < length rows1
-    in1 k l = omega (arith, len1)
+    in1 : (place : ℕ) → place < length rows0 → place < length rows1
+    in1 place here_in = omega (arith, len1)
 
-    row2_at : (k : ℕ) → k < length rows0 → row_at rows2 k ≡ done (row_at rows0 k) (num_at bs k) (num_at ls k)
-    row2_at k l = at-all_moved Donors rows1 ls k sl.same_length (in1 k l) ∙ ap (λ r. moved_by Donors r (num_at ls k)) (row1_at k l)
+    row2_at : (place : ℕ) → place < length rows0 → row_at rows2 place ≡ done (row_at rows0 place) (num_at borrows place) (num_at lends place)
+    row2_at place here_in = at-all_moved Donors rows1 lends place donors_spread.same_length (in1 place here_in) ∙ ap (λ row. moved_by Donors row (num_at lends place)) (row1_at place here_in)
 
-    both : (k : ℕ) → k < length rows0 → Both floor (row_at rows0 k) (num_at bs k) (num_at ls k)
-    both k l = record {
-      start = start k l;
-      borrows = sb.within k l;
-      lends = subst (λ (r : Row). num_at ls k ≤ room_of Donors floor r) (row1_at k l) (sl.within k (in1 k l));
+    both : (place : ℕ) → place < length rows0 → Both floor (row_at rows0 place) (num_at borrows place) (num_at lends place)
+    both place here_in = record {
+      start = start place here_in;
+      borrows = borrowers_spread.within place here_in;
+      lends = subst (λ (row : Row). num_at lends place ≤ movable_of Donors floor row) (row1_at place here_in) (donors_spread.within place (in1 place here_in));
     }
 
-    abbrev us0 : List User
-    us0 = map (user_of floor) rows0
+    abbrev first_users : List User
+    first_users = map (user_of floor) rows0
 
-    abbrev us2 : List User
-    us2 = map (user_of floor) rows2
+    abbrev last_users : List User
+    last_users = map (user_of floor) rows2
 
     abbrev first : ℕ → User
-    first k = user_of floor (row_at rows0 k)
+    first place = user_of floor (row_at rows0 place)
 
     abbrev last : ℕ → User
-    last k = user_of floor (done (row_at rows0 k) (num_at bs k) (num_at ls k))
+    last place = user_of floor (done (row_at rows0 place) (num_at borrows place) (num_at lends place))
 
-    us0_at : (k : ℕ) → k < length rows0 → at us0 k ≡ first k
-    us0_at k l = get_or-map (user_of floor) rows0 k _ nobody l
+    first_users_at : (place : ℕ) → place < length rows0 → at first_users place ≡ first place
+    first_users_at place here_in = get_or-map (user_of floor) rows0 place _ nobody here_in
 
-    us2_at : (k : ℕ) → k < length rows0 → at us2 k ≡ last k
-    us2_at k l = get_or-map (user_of floor) rows2 k _ nobody (omega (arith, len2)) ∙ ap (user_of floor) (row2_at k l)
+    last_users_at : (place : ℕ) → place < length rows0 → at last_users place ≡ last place
+    last_users_at place here_in = get_or-map (user_of floor) rows2 place _ nobody (omega (arith, len2)) ∙ ap (user_of floor) (row2_at place here_in)
 
-    len_us : length us2 ≡ length us0
+    len_us : length last_users ≡ length first_users
     len_us = length-map rows2 (user_of floor) ∙ len2 ∙ sym (length-map rows0 (user_of floor))
 
-    inside : (k : ℕ) → k < length us2 → k < length rows0
-    inside k l = omega (arith, length-map rows2 (user_of floor), len2)
+    inside : (place : ℕ) → place < length last_users → place < length rows0
+    inside place here_in = omega (arith, length-map rows2 (user_of floor), len2)
 
-    borrow_level : (i j : ℕ) → i < length rows0 → j < length rows0 → (at us0 i).row.given < (at us2 i).row.given → NeedsOne (at us2 j) → ((at us2 j).row.credits ≤ (at us2 i).row.credits + 1) × (j < i → (at us2 j).row.credits ≤ (at us2 i).row.credits)
-    borrow_level i j li lj g n =
-        let gi : (first i).row.given < (last i).row.given = subst (λ (u : User). (first i).row.given < u.row.given) (us2_at i li) (subst (λ (u : User). u.row.given < (at us2 i).row.given) (us0_at i li) g) in
-        let bi : (0 < num_at bs i) × (num_at ls i ≡ 0) = has_borrowed floor (row_at rows0 i) (num_at bs i) (num_at ls i) (both i li) gi in
-        let nj : (num_at bs j < room_of Borrowers floor (row_at rows0 j)) × (num_at ls j ≡ 0) = needs_more floor (row_at rows0 j) (num_at bs j) (num_at ls j) (both j lj) (subst (λ (u : User). NeedsOne u) (us2_at j lj) n) in
-        let ci : (at us2 i).row.credits ≡ ((row_at rows0 i).credits - num_at bs i) + num_at ls i = ap (λ u. u.row.credits) (us2_at i li) in
-        let cj : (at us2 j).row.credits ≡ ((row_at rows0 j).credits - num_at bs j) + num_at ls j = ap (λ u. u.row.credits) (us2_at j lj) in
-        let zi : num_at ls i ≡ 0 = bi.1 in
-        let zj : num_at ls j ≡ 0 = nj.1 in
-        let near : (row_at rows0 j).credits - num_at bs j ≤ ((row_at rows0 i).credits - num_at bs i) + 1 = sb.order i j li lj bi.0 nj.0 in (
+    borrow_level : (mover other : ℕ) → mover < length rows0 → other < length rows0 → (at first_users mover).row.given < (at last_users mover).row.given → NeedsOne (at last_users other) → ((at last_users other).row.credits ≤ (at last_users mover).row.credits + 1) × (other < mover → (at last_users other).row.credits ≤ (at last_users mover).row.credits)
+    borrow_level mover other mover_in other_in moved needs =
+        let mover_moved : (first mover).row.given < (last mover).row.given = subst (λ (user : User). (first mover).row.given < user.row.given) (last_users_at mover mover_in) (subst (λ (user : User). user.row.given < (at last_users mover).row.given) (first_users_at mover mover_in) moved) in
+        let mover_borrowed : (0 < num_at borrows mover) × (num_at lends mover ≡ 0) = has_borrowed floor (row_at rows0 mover) (num_at borrows mover) (num_at lends mover) (both mover mover_in) mover_moved in
+        let other_needs : (num_at borrows other < movable_of Borrowers floor (row_at rows0 other)) × (num_at lends other ≡ 0) = needs_more floor (row_at rows0 other) (num_at borrows other) (num_at lends other) (both other other_in) (subst (λ (user : User). NeedsOne user) (last_users_at other other_in) needs) in
+        let mover_credits : (at last_users mover).row.credits ≡ ((row_at rows0 mover).credits - num_at borrows mover) + num_at lends mover = ap (λ user. user.row.credits) (last_users_at mover mover_in) in
+        let other_credits : (at last_users other).row.credits ≡ ((row_at rows0 other).credits - num_at borrows other) + num_at lends other = ap (λ user. user.row.credits) (last_users_at other other_in) in
+        let mover_none : num_at lends mover ≡ 0 = mover_borrowed.1 in
+        let other_none : num_at lends other ≡ 0 = other_needs.1 in
+        let near : (row_at rows0 other).credits - num_at borrows other ≤ ((row_at rows0 mover).credits - num_at borrows mover) + 1 = borrowers_spread.order mover other mover_in other_in mover_borrowed.0 other_needs.0 in (
           omega arith,
           λ before.
-              let tied : (row_at rows0 j).credits - num_at bs j ≤ (row_at rows0 i).credits - num_at bs i = sb.tied i j li before bi.0 nj.0 in
+              let tied : (row_at rows0 other).credits - num_at borrows other ≤ (row_at rows0 mover).credits - num_at borrows mover = borrowers_spread.tied mover other mover_in before mover_borrowed.0 other_needs.0 in
               omega arith,
         )
 
-    lend_level : (i j : ℕ) → i < length rows0 → j < length rows0 → (at us2 i).left < (at us0 i).left → 0 < (at us2 j).left → ((at us2 i).row.credits ≤ (at us2 j).row.credits + 1) × (j < i → (at us2 i).row.credits ≤ (at us2 j).row.credits)
-    lend_level i j li lj g n =
-        let gi : (last i).left < (first i).left = subst (λ (u : User). (last i).left < u.left) (us0_at i li) (subst (λ (u : User). u.left < (at us0 i).left) (us2_at i li) g) in
-        let lent_i : 0 < num_at ls i = has_lent floor (row_at rows0 i) (num_at bs i) (num_at ls i) (both i li) gi in
-        let left_j : num_at ls j < room_of Donors floor (row_at rows1 j) = subst (λ (r : Row). num_at ls j < room_of Donors floor r) (sym (row1_at j lj)) (more_left floor (row_at rows0 j) (num_at bs j) (num_at ls j) (subst (λ (u : User). 0 < u.left) (us2_at j lj) n)) in
-        let ki : key_of Donors (row_at rows1 i) ≡ 2 ^ 63 - ((row_at rows0 i).credits - num_at bs i) = ap (key_of Donors) (row1_at i li) in
-        let kj : key_of Donors (row_at rows1 j) ≡ 2 ^ 63 - ((row_at rows0 j).credits - num_at bs j) = ap (key_of Donors) (row1_at j lj) in
-        let ci : (at us2 i).row.credits ≡ ((row_at rows0 i).credits - num_at bs i) + num_at ls i = ap (λ u. u.row.credits) (us2_at i li) in
-        let cj : (at us2 j).row.credits ≡ ((row_at rows0 j).credits - num_at bs j) + num_at ls j = ap (λ u. u.row.credits) (us2_at j lj) in
-        let bound : ((row_at rows0 i).credits - num_at bs i) + num_at ls i ≤ 2 ^ 63 = omega (arith, (both i li).lends, (start i li).room) in
-        let near : key_of Donors (row_at rows1 j) - num_at ls j ≤ (key_of Donors (row_at rows1 i) - num_at ls i) + 1 = sl.order i j (in1 i li) (in1 j lj) lent_i left_j in (
+    lend_level : (mover other : ℕ) → mover < length rows0 → other < length rows0 → (at last_users mover).left < (at first_users mover).left → 0 < (at last_users other).left → ((at last_users mover).row.credits ≤ (at last_users other).row.credits + 1) × (other < mover → (at last_users mover).row.credits ≤ (at last_users other).row.credits)
+    lend_level mover other mover_in other_in moved needs =
+        let mover_moved : (last mover).left < (first mover).left = subst (λ (user : User). (last mover).left < user.left) (first_users_at mover mover_in) (subst (λ (user : User). user.left < (at first_users mover).left) (last_users_at mover mover_in) moved) in
+        let lent_i : 0 < num_at lends mover = has_lent floor (row_at rows0 mover) (num_at borrows mover) (num_at lends mover) (both mover mover_in) mover_moved in
+        let left_j : num_at lends other < movable_of Donors floor (row_at rows1 other) = subst (λ (row : Row). num_at lends other < movable_of Donors floor row) (sym (row1_at other other_in)) (more_left floor (row_at rows0 other) (num_at borrows other) (num_at lends other) (subst (λ (user : User). 0 < user.left) (last_users_at other other_in) needs)) in
+        let mover_key : key_of Donors (row_at rows1 mover) ≡ CREDITS_TOP - ((row_at rows0 mover).credits - num_at borrows mover) = ap (key_of Donors) (row1_at mover mover_in) in
+        let other_key : key_of Donors (row_at rows1 other) ≡ CREDITS_TOP - ((row_at rows0 other).credits - num_at borrows other) = ap (key_of Donors) (row1_at other other_in) in
+        let mover_credits : (at last_users mover).row.credits ≡ ((row_at rows0 mover).credits - num_at borrows mover) + num_at lends mover = ap (λ user. user.row.credits) (last_users_at mover mover_in) in
+        let other_credits : (at last_users other).row.credits ≡ ((row_at rows0 other).credits - num_at borrows other) + num_at lends other = ap (λ user. user.row.credits) (last_users_at other other_in) in
+        let bound : ((row_at rows0 mover).credits - num_at borrows mover) + num_at lends mover ≤ CREDITS_TOP = omega (arith, (both mover mover_in).lends, (start mover mover_in).room) in
+        let near : key_of Donors (row_at rows1 other) - num_at lends other ≤ (key_of Donors (row_at rows1 mover) - num_at lends mover) + 1 = donors_spread.order mover other (in1 mover mover_in) (in1 other other_in) lent_i left_j in (
           omega arith,
           λ before.
-              let tied : key_of Donors (row_at rows1 j) - num_at ls j ≤ key_of Donors (row_at rows1 i) - num_at ls i = sl.tied i j (in1 i li) before lent_i left_j in
+              let tied : key_of Donors (row_at rows1 other) - num_at lends other ≤ key_of Donors (row_at rows1 mover) - num_at lends mover = donors_spread.tied mover other (in1 mover mover_in) before lent_i left_j in
               omega arith,
         )
 
-    in_order : InOrder us0 us2
+    in_order : InOrder first_users last_users
     in_order = record {
       same_length = len_us;
-      each = λ k l. subst (λ (u : User). Since (at us0 k) u) (sym (us2_at k (inside k l))) (subst (λ (u : User). Since u (last k)) (sym (us0_at k (inside k l))) (since_both floor (row_at rows0 k) (num_at bs k) (num_at ls k) (both k (inside k l))));
-      borrowers = λ i j li lj g n. (borrow_level i j (inside i li) (inside j lj) g n).0;
-      borrowers_tied = λ i j li before g n. (borrow_level i j (inside i li) (inside j (omega arith)) g n).1 before;
-      donors = λ i j li lj g n. (lend_level i j (inside i li) (inside j lj) g n).0;
-      donors_tied = λ i j li before g n. (lend_level i j (inside i li) (inside j (omega arith)) g n).1 before;
+      each = λ place here_in. subst (λ (user : User). Since (at first_users place) user) (sym (last_users_at place (inside place here_in))) (subst (λ (user : User). Since user (last place)) (sym (first_users_at place (inside place here_in))) (since_both floor (row_at rows0 place) (num_at borrows place) (num_at lends place) (both place (inside place here_in))));
+      borrowers = λ mover other mover_in other_in moved needs. (borrow_level mover other (inside mover mover_in) (inside other other_in) moved needs).0;
+      borrowers_tied = λ mover other mover_in before moved needs. (borrow_level mover other (inside mover mover_in) (inside other (omega arith)) moved needs).1 before;
+      donors = λ mover other mover_in other_in moved needs. (lend_level mover other (inside mover mover_in) (inside other other_in) moved needs).0;
+      donors_tied = λ mover other mover_in before moved needs. (lend_level mover other (inside mover mover_in) (inside other (omega arith)) moved needs).1 before;
     }
 
-    apart : Apart us0
-    apart k l left =
-        let m : k < length rows0 = omega (arith, length-map rows0 (user_of floor)) in
-        subst (λ (u : User). 0 < u.left → u.row.demand ≤ u.row.given) (sym (us0_at k m)) (λ some. omega (arith, (start k m).filled)) left
+    apart : Apart first_users
+    apart place here_in left =
+        let in_rows : place < length rows0 = omega (arith, length-map rows0 (user_of floor)) in
+        subst (λ (user : User). 0 < user.left → user.row.demand ≤ user.row.given) (sym (first_users_at place in_rows)) (λ some. omega (arith, (start place in_rows).filled)) left
 
-    given_more : given_sum us2 ≡ given_sum us0 + loans
-    given_more = sum_by-more (λ u. u.row.given) (λ u. u.row.given) us0 us2 bs nobody nobody (sym len_us) (sb.same_length ∙ sym (length-map rows0 (user_of floor)))
-        (λ k l. let m : k < length rows0 = omega (arith, length-map rows0 (user_of floor)) in
-        ap (λ u. u.row.given) (us2_at k m) ∙ given_both floor (row_at rows0 k) (num_at bs k) (num_at ls k) (both k m) ∙ ap (λ u. u.row.given + num_at bs k) (sym (us0_at k m)))
-        ∙ ap (λ n. given_sum us0 + n) sb.total
+    given_more : given_sum last_users ≡ given_sum first_users + loans
+    given_more = sum_by-more (λ user. user.row.given) (λ user. user.row.given) first_users last_users borrows nobody nobody (sym len_us) (borrowers_spread.same_length ∙ sym (length-map rows0 (user_of floor)))
+        (λ place here_in. let in_rows : place < length rows0 = omega (arith, length-map rows0 (user_of floor)) in
+        ap (λ user. user.row.given) (last_users_at place in_rows) ∙ given_both floor (row_at rows0 place) (num_at borrows place) (num_at lends place) (both place in_rows) ∙ ap (λ user. user.row.given + num_at borrows place) (sym (first_users_at place in_rows)))
+        ∙ ap (λ slices. given_sum first_users + slices) borrowers_spread.total
 
-    left_more : left_sum us0 ≡ left_sum us2 + lent
-    left_more = sum_by-more (λ u. u.left) (λ u. u.left) us2 us0 ls nobody nobody len_us (sl.same_length ∙ len1 ∙ sym (length-map rows0 (user_of floor)) ∙ sym len_us)
-        (λ k l. let m : k < length rows0 = inside k l in
-        ap (λ u. u.left) (us0_at k m) ∙ left_both floor (row_at rows0 k) (num_at bs k) (num_at ls k) (both k m) ∙ ap (λ u. u.left + num_at ls k) (sym (us2_at k m)))
-        ∙ ap (λ n. left_sum us2 + n) sl.total
+    left_more : left_sum first_users ≡ left_sum last_users + lent
+    left_more = sum_by-more (λ user. user.left) (λ user. user.left) last_users first_users lends nobody nobody len_us (donors_spread.same_length ∙ len1 ∙ sym (length-map rows0 (user_of floor)) ∙ sym len_us)
+        (λ place here_in. let in_rows : place < length rows0 = inside place here_in in
+        ap (λ user. user.left) (first_users_at place in_rows) ∙ left_both floor (row_at rows0 place) (num_at borrows place) (num_at lends place) (both place in_rows) ∙ ap (λ user. user.left + num_at lends place) (sym (last_users_at place in_rows)))
+        ∙ ap (λ slices. left_sum last_users + slices) donors_spread.total
 
-    takable_is : takable us0 ≡ sum_by (room_of Borrowers floor) rows0
-    takable_is = sum_by-same (room_of Borrowers floor) can_take rows0 us0 _ nobody (sym (length-map rows0 (user_of floor)))
-        (λ k l. ap can_take (us0_at k l) ∙ room_is (row_at rows0 k))
+    takable_is : takable first_users ≡ sum_by (movable_of Borrowers floor) rows0
+    takable_is = sum_by-same (movable_of Borrowers floor) can_take rows0 first_users _ nobody (sym (length-map rows0 (user_of floor)))
+        (λ place here_in. ap can_take (first_users_at place here_in) ∙ room_is (row_at rows0 place))
       where
-        room_is : (r : Row) → can_take (user_of floor r) ≡ room_of Borrowers floor r
-        room_is r = omega arith
+        room_is : (row : Row) → can_take (user_of floor row) ≡ movable_of Borrowers floor row
+        room_is row = omega arith
 
-    left_is : left_sum us0 ≡ sum_by (room_of Donors floor) rows0
-    left_is = sum_by-same (room_of Donors floor) (λ u. u.left) rows0 us0 _ nobody (sym (length-map rows0 (user_of floor))) (λ k l. ap (λ u. u.left) (us0_at k l))
+    left_is : left_sum first_users ≡ sum_by (movable_of Donors floor) rows0
+    left_is = sum_by-same (movable_of Donors floor) (λ user. user.left) rows0 first_users _ nobody (sym (length-map rows0 (user_of floor))) (λ place here_in. ap (λ user. user.left) (first_users_at place here_in))
 
-    pub batch_is : (shared : ℕ) → loans ≡ min (sum_by (room_of Borrowers floor) rows0) (sum_by (room_of Donors floor) rows0 + shared) → lent ≡ min loans (sum_by (room_of Donors floor) rows0) → us2 ≡ (closing (quantum_of floor rows0 shared)).users
-    batch_is shared el et =
-        ending_is (quantum_of floor rows0 shared) apart us2 in_order
+    pub batch_is : (shared : ℕ) → loans ≡ min (sum_by (movable_of Borrowers floor) rows0) (sum_by (movable_of Donors floor) rows0 + shared) → lent ≡ min loans (sum_by (movable_of Donors floor) rows0) → last_users ≡ (closing (quantum_of floor rows0 shared)).users
+    batch_is shared loans_are lent_is =
+        ending_is (quantum_of floor rows0 shared) apart last_users in_order
         (omega (arith, given_more, takable_is, left_is))
         (omega (arith, left_more, takable_is, left_is))
 
 -- ---- the same, from what `spread` ensures
-module _ (floor : ℕ) (rows0 new1 : List Row) (start : (k : ℕ) → k < length rows0 → IsOpened floor (row_at rows0 k)) (loans : ℕ) (s1 : Spreads Borrowers floor loans rows0 new1) where
+module _ (floor : ℕ) (rows0 new1 : List Row) (start : (place : ℕ) → place < length rows0 → IsOpened floor (row_at rows0 place)) (loans : ℕ) (first_spread : Spreads Borrowers floor loans rows0 new1) where
   pub spread_open : All (IsOpenRow floor) new1
-  spread_open = subst (λ (rows : List Row). All (IsOpenRow floor) rows) (sym s1.new_is) (open1 floor rows0 start loans s1.moved s1.spread)
+  spread_open = subst (λ (rows : List Row). All (IsOpenRow floor) rows) (sym first_spread.new_is) (open1 floor rows0 start loans first_spread.moved first_spread.spread)
 
-  pub room_spread : sum_by (room_of Donors floor) new1 ≡ sum_by (room_of Donors floor) rows0
-  room_spread = ap (sum_by (room_of Donors floor)) s1.new_is ∙ lender_room floor rows0 start loans s1.moved s1.spread
+  pub room_spread : sum_by (movable_of Donors floor) new1 ≡ sum_by (movable_of Donors floor) rows0
+  room_spread = ap (sum_by (movable_of Donors floor)) first_spread.new_is ∙ lender_room floor rows0 start loans first_spread.moved first_spread.spread
 
-  pub batch_ends : (lent : ℕ) (new2 : List Row) → Spreads Donors floor lent new1 new2 → (shared : ℕ) → loans ≡ min (sum_by (room_of Borrowers floor) rows0) (sum_by (room_of Donors floor) rows0 + shared) → lent ≡ min loans (sum_by (room_of Donors floor) rows0) → map (user_of floor) new2 ≡ (closing (quantum_of floor rows0 shared)).users
-  batch_ends lent new2 s2 shared el et =
-      let sl : IsSpread Donors floor lent (all_moved Borrowers rows0 s1.moved) s2.moved = subst (λ (rows : List Row). IsSpread Donors floor lent rows s2.moved) s1.new_is s2.spread in
-      ap (map (user_of floor)) (s2.new_is ∙ ap (λ rows. all_moved Donors rows s2.moved) s1.new_is)
-      ∙ batch_is floor rows0 start loans s1.moved s1.spread lent s2.moved sl shared el et
+  pub batch_ends : (lent : ℕ) (new2 : List Row) → Spreads Donors floor lent new1 new2 → (shared : ℕ) → loans ≡ min (sum_by (movable_of Borrowers floor) rows0) (sum_by (movable_of Donors floor) rows0 + shared) → lent ≡ min loans (sum_by (movable_of Donors floor) rows0) → map (user_of floor) new2 ≡ (closing (quantum_of floor rows0 shared)).users
+  batch_ends lent new2 second_spread shared loans_are lent_is =
+      let donors : IsSpread Donors floor lent (all_moved Borrowers rows0 first_spread.moved) second_spread.moved = subst (λ (rows : List Row). IsSpread Donors floor lent rows second_spread.moved) first_spread.new_is second_spread.spread in
+      ap (map (user_of floor)) (second_spread.new_is ∙ ap (λ rows. all_moved Donors rows second_spread.moved) first_spread.new_is)
+      ∙ batch_is floor rows0 start loans first_spread.moved first_spread.spread lent second_spread.moved donors shared loans_are lent_is
 
-pub shared_bound : (n f g : ℕ) → n ≤ 1024 → f ≤ 2 ^ 32 → n * (f - g) ≤ 2 ^ 42
-shared_bound n f g l m =
-    let less : f - g ≤ 2 ^ 32 = omega arith in
-    let product : n * (f - g) ≤ 1024 * 2 ^ 32 = mul-le-mul l less in
+pub shared_bound : (users fair floor : ℕ) → users ≤ MOST_USERS → fair ≤ MOST_FAIR → users * (fair - floor) ≤ MOST_DEMAND
+shared_bound users fair floor few low =
+    let less : fair - floor ≤ MOST_FAIR = omega arith in
+    let product : users * (fair - floor) ≤ MOST_USERS * MOST_FAIR = mul-le-mul few less in
     omega arith

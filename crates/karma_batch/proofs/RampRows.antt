@@ -3,13 +3,15 @@ use Rattle.std.proofs.Common.{◌≡◌, ℕ, ◌+◌, ◌-◌, ◌*◌, ◌^◌
 use Rattle.std.specs.List.{sum_by, All}
 use Rattle.std.proofs.lemmas.List.{take_more_set}
 use Rattle.std.proofs.lemmas.List.Sums.{sum_by-le, sum_by_more, sum_by_more_le, sum_by_push}
+use Rattle.karma_rule.specs.declared.limits.TheConstants.{CREDITS_TOP}
+use Rattle.karma_batch.specs.declared.ramp.TheConstants.{MOST_MOVED}
 use Rattle.karma_rule.specs.declared.row.Row.{Row}
 use Rattle.karma_batch.specs.declared.ramp.Ramp.{Ramp}
 use Rattle.karma_batch.specs.declared.side.Side.{Side}
 use Rattle.karma_rule.specs.Laws.{row_at}
 use Rattle.karma_rule.specs.OpenRow.{IsOpenRow}
 use Rattle.karma_rule.proofs.RowsOfUsers.{no_row}
-use Rattle.karma_batch.specs.Levels.{key_of, room_of, above, over}
+use Rattle.karma_batch.specs.Levels.{key_of, movable_of, above, over}
 use Rattle.karma_batch.proofs.LevelRows.{key_bound}
 use Rattle.karma_batch.proofs.BatchRows.{sum_whole}
 
@@ -18,49 +20,49 @@ abbrev pub no_ramp : Ramp
 no_ramp = record { from = 0; to = 0 }
 
 abbrev pub ramp_at : List Ramp → ℕ → Ramp
-ramp_at ramps i = get_or ramps i no_ramp
+ramp_at ramps place = get_or ramps place no_ramp
 
-pub ramp_step : (level : ℕ) (ramps : List Ramp) (i total : ℕ) → sum_by (over level) ramps ≤ 2 ^ 52 → i < length ramps → total ≡ sum_by (over level) (take i ramps) → total + over level (ramp_at ramps i) < 2 ^ 64
-ramp_step level ramps i total small l e =
-    let more : sum_by (over level) (take i ramps) + over level (ramp_at ramps i) ≤ sum_by (over level) ramps = sum_by_more_le (over level) ramps i no_ramp l in
+pub ramp_step : (level : ℕ) (ramps : List Ramp) (place total : ℕ) → sum_by (over level) ramps ≤ MOST_MOVED → place < length ramps → total ≡ sum_by (over level) (take place ramps) → total + over level (ramp_at ramps place) < 2 ^ 64
+ramp_step level ramps place total small inside so_far =
+    let more : sum_by (over level) (take place ramps) + over level (ramp_at ramps place) ≤ sum_by (over level) ramps = sum_by_more_le (over level) ramps place no_ramp inside in
     omega arith
 
 -- one more in front
 pub sum_kept : (level : ℕ) (ramps : List Ramp) (kept : ℕ) (ramp : Ramp) → kept < length ramps → sum_by (over level) (take (kept + 1) (set ramps kept ramp)) ≡ sum_by (over level) (take kept ramps) + over level ramp
-sum_kept level ramps kept ramp l = ap (sum_by (over level)) (take_more_set ramps kept ramp l) ∙ sum_by_push (over level) (take kept ramps) ramp
+sum_kept level ramps kept ramp inside = ap (sum_by (over level)) (take_more_set ramps kept ramp inside) ∙ sum_by_push (over level) (take kept ramps) ramp
 
 -- ---- rows
 -- a row's ramp
 abbrev pub ramp_of : Side → ℕ → Row → Ramp
-ramp_of side floor row = record { from = key_of side row - room_of side floor row; to = key_of side row }
+ramp_of side floor row = record { from = key_of side row - movable_of side floor row; to = key_of side row }
 
 pub over_row : (side : Side) (floor level : ℕ) (row : Row) → IsOpenRow floor row → over level (ramp_of side floor row) ≡ above side floor level row
-over_row side floor level row w =
-    let bound : (key_of side row ≤ 2 ^ 63) × (room_of side floor row ≤ key_of side row) = key_bound side floor row w in
+over_row side floor level row is_open =
+    let bound : (key_of side row ≤ CREDITS_TOP) × (movable_of side floor row ≤ key_of side row) = key_bound side floor row is_open in
     omega (arith, bound.1)
 
 abbrev pub Stand : Side → ℕ → List Row → List Ramp → Type 0
 Stand side floor rows ramps = (level : ℕ) → sum_by (over level) ramps ≡ sum_by (above side floor level) rows
 
 -- a row that can move nothing has no ramp
-pub stand_none : (side : Side) (floor : ℕ) (rows : List Row) (i : ℕ) (ramps : List Ramp) → i < length rows → room_of side floor (row_at rows i) ≤ 0 → Stand side floor (take i rows) ramps → Stand side floor (take (i + 1) rows) ramps
-stand_none side floor rows i ramps l none h level =
-    let more : sum_by (above side floor level) (take (i + 1) rows) ≡ sum_by (above side floor level) (take i rows) + above side floor level (row_at rows i) = sum_by_more (above side floor level) rows i no_row l in
-    omega (arith, h level)
+pub stand_none : (side : Side) (floor : ℕ) (rows : List Row) (place : ℕ) (ramps : List Ramp) → place < length rows → movable_of side floor (row_at rows place) ≤ 0 → Stand side floor (take place rows) ramps → Stand side floor (take (place + 1) rows) ramps
+stand_none side floor rows place ramps inside none stand level =
+    let more : sum_by (above side floor level) (take (place + 1) rows) ≡ sum_by (above side floor level) (take place rows) + above side floor level (row_at rows place) = sum_by_more (above side floor level) rows place no_row inside in
+    omega (arith, stand level)
 
-pub stand_more : (side : Side) (floor : ℕ) (rows : List Row) (i : ℕ) (ramps : List Ramp) (kept : ℕ) (ramp : Ramp) → i < length rows → kept < length ramps → IsOpenRow floor (row_at rows i) → ramp ≡ ramp_of side floor (row_at rows i) → Stand side floor (take i rows) (take kept ramps) → Stand side floor (take (i + 1) rows) (take (kept + 1) (set ramps kept ramp))
-stand_more side floor rows i ramps kept ramp l m w e h level =
-    let more : sum_by (above side floor level) (take (i + 1) rows) ≡ sum_by (above side floor level) (take i rows) + above side floor level (row_at rows i) = sum_by_more (above side floor level) rows i no_row l in
-    let same : over level ramp ≡ above side floor level (row_at rows i) = ap (over level) e ∙ over_row side floor level (row_at rows i) w in
-    omega (arith, h level, sum_kept level ramps kept ramp m)
+pub stand_more : (side : Side) (floor : ℕ) (rows : List Row) (place : ℕ) (ramps : List Ramp) (kept : ℕ) (ramp : Ramp) → place < length rows → kept < length ramps → IsOpenRow floor (row_at rows place) → ramp ≡ ramp_of side floor (row_at rows place) → Stand side floor (take place rows) (take kept ramps) → Stand side floor (take (place + 1) rows) (take (kept + 1) (set ramps kept ramp))
+stand_more side floor rows place ramps kept ramp inside in_ramps is_open is_ramp stand level =
+    let more : sum_by (above side floor level) (take (place + 1) rows) ≡ sum_by (above side floor level) (take place rows) + above side floor level (row_at rows place) = sum_by_more (above side floor level) rows place no_row inside in
+    let same : over level ramp ≡ above side floor level (row_at rows place) = ap (over level) is_ramp ∙ over_row side floor level (row_at rows place) is_open in
+    omega (arith, stand level, sum_kept level ramps kept ramp in_ramps)
 
 -- no key is above the top
-pub sum_top : (side : Side) (floor : ℕ) (rows : List Row) → All (IsOpenRow floor) rows → sum_by (above side floor (2 ^ 63)) rows ≡ 0
-sum_top side floor rows w =
-    let each : All (λ row. above side floor (2 ^ 63) row ≤ 0) rows = λ k d l. (let bound : (key_of side (get_or rows k d) ≤ 2 ^ 63) × (room_of side floor (get_or rows k d) ≤ key_of side (get_or rows k d)) = key_bound side floor (get_or rows k d) (w k d l) in omega (arith, bound.0)) in
-    let le : sum_by (above side floor (2 ^ 63)) rows ≤ length rows * 0 = sum_by-le (above side floor (2 ^ 63)) 0 rows each in
+pub sum_top : (side : Side) (floor : ℕ) (rows : List Row) → All (IsOpenRow floor) rows → sum_by (above side floor CREDITS_TOP) rows ≡ 0
+sum_top side floor rows are_open =
+    let each : All (λ row. above side floor CREDITS_TOP row ≤ 0) rows = λ place default inside. (let bound : (key_of side (get_or rows place default) ≤ CREDITS_TOP) × (movable_of side floor (get_or rows place default) ≤ key_of side (get_or rows place default)) = key_bound side floor (get_or rows place default) (are_open place default inside) in omega (arith, bound.0)) in
+    let at_most : sum_by (above side floor CREDITS_TOP) rows ≤ length rows * 0 = sum_by-le (above side floor CREDITS_TOP) 0 rows each in
     omega arith
 
 -- down at the level 0 all was moved
-pub whole : (side : Side) (floor : ℕ) (rows : List Row) → All (IsOpenRow floor) rows → sum_by (above side floor 0) rows ≡ sum_by (room_of side floor) rows
-whole side floor rows w = sum_whole side floor rows (λ k l. (key_bound side floor (row_at rows k) (w k _ l)).1)
+pub whole : (side : Side) (floor : ℕ) (rows : List Row) → All (IsOpenRow floor) rows → sum_by (above side floor 0) rows ≡ sum_by (movable_of side floor) rows
+whole side floor rows are_open = sum_whole side floor rows (λ place inside. (key_bound side floor (row_at rows place) (are_open place _ inside)).1)

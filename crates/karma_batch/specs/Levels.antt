@@ -1,7 +1,8 @@
 -- How the rule by levels moves slices: every row of a side moves until its key is down at a level, and then one more each, by number, while some are left.
-use Rattle.std.specs.Prelude.{ℕ, ◌+◌, ◌-◌, ◌^◌, ◌<◌, ◌≤◌, ◌≡◌, min, max, Bool, ◌&&◌, ◌==◌, nat_lt, if◌then◌else◌, List, [], ◌∷◌, length, slice_index}
+use Rattle.std.specs.Prelude.{ℕ, ◌+◌, ◌-◌, ◌<◌, ◌≤◌, ◌≡◌, min, max, Bool, ◌&&◌, ◌==◌, nat_lt, if◌then◌else◌, List, [], ◌∷◌, length, slice_index}
 use Rattle.std.specs.List.{sum}
 use Rattle.karma_rule.specs.declared.row.Row.{Row}
+use Rattle.karma_rule.specs.declared.limits.TheConstants.{CREDITS_TOP}
 use Rattle.karma_batch.specs.declared.ramp.Ramp.{Ramp}
 use Rattle.karma_batch.specs.declared.side.Side.{Side}
 use Rattle.karma_batch.specs.declared.side.Side.TheVariants.{Borrowers, Donors}
@@ -10,12 +11,12 @@ use Rattle.karma_rule.specs.Laws.{row_at}
 -- Whose key is greatest comes first: borrowers by their credits, donors by what their credits lack. Each slice that a row moves lowers its key by one.
 abbrev pub key_of : Side → Row → ℕ
 key_of Borrowers row = row.credits
-key_of Donors row = 2 ^ 63 - row.credits
+key_of Donors row = CREDITS_TOP - row.credits
 
 -- how many slices a row can move: what a borrower wants and can pay, or what a donor has left of its floor
-abbrev pub room_of : Side → ℕ → Row → ℕ
-room_of Borrowers floor row = min (row.demand - row.given) row.credits
-room_of Donors floor row = floor - row.given
+abbrev pub movable_of : Side → ℕ → Row → ℕ
+movable_of Borrowers floor row = min (row.demand - row.given) row.credits
+movable_of Donors floor row = floor - row.given
 
 -- the row after it has moved some slices: a borrower pays for each, a donor earns for each
 abbrev pub moved_by : Side → Row → ℕ → Row
@@ -24,7 +25,7 @@ moved_by Donors row slices = record { demand = row.demand; credits = row.credits
 
 -- how many of its slices a row moves until its key is at the level
 abbrev pub above : Side → ℕ → ℕ → Row → ℕ
-above side floor level row = min (room_of side floor row) (key_of side row - level)
+above side floor level row = min (movable_of side floor row) (key_of side row - level)
 
 -- how many slices a ramp moves until it is down at the level
 abbrev pub over : ℕ → Ramp → ℕ
@@ -32,7 +33,7 @@ over level ramp = ramp.to - max ramp.from level
 
 -- is at the level then, and can move one more
 abbrev pub is_at_level : Side → ℕ → ℕ → Row → Bool
-is_at_level side floor level row = nat_lt (above side floor level row) (room_of side floor row) && (key_of side row - above side floor level row == level)
+is_at_level side floor level row = nat_lt (above side floor level row) (movable_of side floor row) && (key_of side row - above side floor level row == level)
 
 -- moves one more, where some are left
 abbrev pub extra : Side → ℕ → ℕ → ℕ → Row → ℕ
@@ -55,9 +56,9 @@ all_moved side (row ∷ rows) (amount ∷ amounts) = moved_by side row amount �
 pub record IsSpread (side : Side) (floor count : ℕ) (rows : List Row) (moved : List ℕ) : Type 0 where
   pub same_length : length moved ≡ length rows
   pub total : sum moved ≡ count
-  pub within : (k : ℕ) → k < length rows → slice_index moved k ≤ room_of side floor (row_at rows k)
-  pub order : (mover other : ℕ) → mover < length rows → other < length rows → 0 < slice_index moved mover → slice_index moved other < room_of side floor (row_at rows other) → key_of side (row_at rows other) - slice_index moved other ≤ (key_of side (row_at rows mover) - slice_index moved mover) + 1
-  pub tied : (mover other : ℕ) → mover < length rows → other < mover → 0 < slice_index moved mover → slice_index moved other < room_of side floor (row_at rows other) → key_of side (row_at rows other) - slice_index moved other ≤ key_of side (row_at rows mover) - slice_index moved mover
+  pub within : (k : ℕ) → k < length rows → slice_index moved k ≤ movable_of side floor (row_at rows k)
+  pub order : (mover other : ℕ) → mover < length rows → other < length rows → 0 < slice_index moved mover → slice_index moved other < movable_of side floor (row_at rows other) → key_of side (row_at rows other) - slice_index moved other ≤ (key_of side (row_at rows mover) - slice_index moved mover) + 1
+  pub tied : (mover other : ℕ) → mover < length rows → other < mover → 0 < slice_index moved mover → slice_index moved other < movable_of side floor (row_at rows other) → key_of side (row_at rows other) - slice_index moved other ≤ key_of side (row_at rows mover) - slice_index moved mover
 
 -- the rows after a spread
 pub record Spreads (side : Side) (floor count : ℕ) (old new : List Row) : Type 0 where

@@ -1,38 +1,21 @@
-ghost use Rattle.std.specs.Prelude.{◌≡◌, ◌+◌, ◌-◌, ◌^◌, ◌<◌, ◌≤◌, length, map, All, EachIndex};
-ghost use Rattle.karma_rule.specs.Karma.{karma};
-ghost use Rattle.karma_rule.specs.Laws.{demand_of, row_at, total_given, usable, IsLevelled};
+//! The rule's fast body: one quantum by levels of credits.
+
+ghost use Rattle.std.specs.Prelude.{◌≡◌, ◌<◌, ◌≤◌, length, All};
+ghost use Rattle.karma_rule.specs.Quanta.{CanMakeQuantum, MakesQuantum};
 
 use crate::level::total_room;
 use crate::side::Side;
 use crate::spread::spread_count;
-use karma_rule::{Row, Share, close_rows, open_rows};
+use karma_rule::{MOST_USERS, Row, Share, close_rows, open_rows};
 
 /// Makes one quantum: the rows become those that Karma's rule gives, by levels of credits.
 ///
 /// It takes no memory but a buffer on the stack, and a time that grows with the count of users times the bits of a
 /// credit, whatever the count of loans.
 pub fn batch_quantum(rows: &mut [Row], share: Share)
-    requires users { length rows.old ≤ 1024 }
-    requires fair { share.fair ≤ 2 ^ 32 }
-    requires floor { share.floor ≤ share.fair }
-    requires demands { All (λ row. row.demand ≤ 2 ^ 42) rows.old }
-    requires credits { All (λ row. row.credits < 2 ^ 62 - 2 ^ 32) rows.old }
-    ensures rows { rows.new ≡ karma rows.old share }
-
-    // Each user's demand stands, and it is given no more than it wants.
-    ensures demands { map demand_of rows.new ≡ map demand_of rows.old }
-    ensures wanted { All (λ row. row.given ≤ row.demand) rows.new }
-
-    // Credits and slices together come from the credits before and the fair share.
-    ensures paid { EachIndex rows.old (λ user.
-        (row_at rows.new user).credits + (row_at rows.new user).given
-        ≤ (row_at rows.old user).credits + share.fair) }
-
-    // All that is of use is given, where nobody who wants more is out of credits.
-    ensures within { total_given rows.new ≤ usable rows.old share }
-    ensures used { All (λ row. row.given < row.demand → 0 < row.credits) rows.new
-        → total_given rows.new ≡ usable rows.old share }
-    ensures levelled { IsLevelled rows.old rows.new share }
+    requires users { length rows.old ≤ MOST_USERS }
+    requires ready { CanMakeQuantum rows.old share }
+    ensures { MakesQuantum rows.old rows.new share }
 {
     open_rows(rows, share);
     let wanted = total_room(rows, Side::Borrowers, share.floor);
@@ -47,7 +30,7 @@ pub fn batch_quantum(rows: &mut [Row], share: Share)
 #[cfg(test)]
 mod tests {
     use super::*;
-    use karma_rule::plain_quantum;
+    use karma_rule::{CREDITS_BOUND, MOST_DEMAND, plain_quantum};
 
     fn row(demand: u64, credits: u64) -> Row
         ensures { result ≡ record { demand = demand; credits = credits; given = 0 } }
@@ -89,15 +72,15 @@ mod tests {
     }
 
     fn small_row(seed: u32) -> Row
-        ensures demand { result.demand ≤ 2 ^ 42 }
-        ensures credits { result.credits < 2 ^ 62 - 2 ^ 32 }
+        ensures demand { result.demand ≤ MOST_DEMAND }
+        ensures credits { result.credits < CREDITS_BOUND }
     {
         row(u64::from(seed % 13), u64::from(seed / 64 % 11))
     }
 
     fn small_rows(seed: u32) -> [Row; 4]
-        ensures demands { All (λ row. row.demand ≤ 2 ^ 42) result }
-        ensures credits { All (λ row. row.credits < 2 ^ 62 - 2 ^ 32) result }
+        ensures demands { All (λ row. row.demand ≤ MOST_DEMAND) result }
+        ensures credits { All (λ row. row.credits < CREDITS_BOUND) result }
     {
         [
             small_row(seed >> 4),

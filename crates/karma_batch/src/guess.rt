@@ -1,3 +1,5 @@
+//! Where a search for a level looks next. Nothing here decides what is found, so nothing here has a contract.
+
 use crate::ramp::{Ramps, Sums};
 
 /// How many turns a search follows its guesses alone. From then on every other turn halves what is left, so that it

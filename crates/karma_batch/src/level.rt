@@ -1,14 +1,16 @@
-ghost use Rattle.std.specs.Prelude.{◌≡◌, ℕ, ◌+◌, ◌-◌, ◌^◌, ◌<◌, ◌≤◌, length, sum_by, All};
+//! The level down to which a side moves a count of slices.
+
+ghost use Rattle.std.specs.Prelude.{◌≡◌, ℕ, ◌-◌, ◌<◌, ◌≤◌, length, sum_by, All};
 ghost use Rattle.karma_rule.specs.OpenRow.{IsOpenRow};
-ghost use Rattle.karma_batch.specs.Levels.{room_of, above, over};
+ghost use Rattle.karma_batch.specs.Levels.{movable_of, above, over};
 
 use crate::guess::Seen;
-use crate::ramp::{Ramp, Ramps, gather, sums_over};
-use crate::side::{Side, TOP, room};
-use karma_rule::Row;
+use crate::ramp::{MOST_MOVED, Ramp, Ramps, gather, sums_over};
+use crate::side::{Side, room};
+use karma_rule::{CREDITS_TOP, MOST_FAIR, MOST_USERS, Row};
 
 /// The most rows of a quantum.
-const MOST_ROWS: usize = 1024;
+const MOST_ROWS: usize = MOST_USERS as usize;
 
 /// A level, and how many slices a side moves until all its keys are down there.
 #[derive(Clone, Copy)]
@@ -19,10 +21,10 @@ pub struct Level {
 
 /// How many slices the side can move.
 pub fn total_room(rows: &[Row], side: Side, floor: u64) -> u64
-    requires users { length rows.now ≤ 1024 }
-    requires floor { floor ≤ 2 ^ 32 }
+    requires users { length rows.now ≤ MOST_USERS }
+    requires floor { floor ≤ MOST_FAIR }
     requires rows_open { All (IsOpenRow floor) rows.now }
-    ensures { result ≡ sum_by (room_of side floor) rows.now }
+    ensures { result ≡ sum_by (movable_of side floor) rows.now }
 {
     let mut total = 0;
     for row in rows {
@@ -33,15 +35,15 @@ pub fn total_room(rows: &[Row], side: Side, floor: u64) -> u64
 
 /// The lowest level down to which the ramps move no more than `count` of all their slices.
 fn search(ramps: &[Ramp], first: Ramps, total: u64, count: u64) -> Level
-    requires small { (level : ℕ) → sum_by (over level) ramps.now ≤ 2 ^ 52 }
-    requires top { sum_by (over (2 ^ 63)) ramps.now ≡ 0 }
+    requires small { (level : ℕ) → sum_by (over level) ramps.now ≤ MOST_MOVED }
+    requires top { sum_by (over CREDITS_TOP) ramps.now ≡ 0 }
     requires some { count < sum_by (over 0) ramps.now }
     ensures fits { result.moved ≤ count }
     ensures moved { result.moved ≡ sum_by (over result.level) ramps.now }
     ensures tight { count < sum_by (over (result.level - 1)) ramps.now }
 {
     let mut low = 1;
-    let mut high = TOP;
+    let mut high = CREDITS_TOP;
     let mut moved = 0;
     let mut seen = Seen::first(first, total);
     let mut guess = Seen::first_guess(first, count);
@@ -67,10 +69,10 @@ fn search(ramps: &[Ramp], first: Ramps, total: u64, count: u64) -> Level
 
 /// The lowest level down to which the side moves no more than `count` slices of the `total` that it can move.
 pub fn level_for(rows: &[Row], side: Side, floor: u64, total: u64, count: u64) -> Level
-    requires users { length rows.now ≤ 1024 }
-    requires floor { floor ≤ 2 ^ 32 }
+    requires users { length rows.now ≤ MOST_USERS }
+    requires floor { floor ≤ MOST_FAIR }
     requires rows_open { All (IsOpenRow floor) rows.now }
-    requires total { total ≡ sum_by (room_of side floor) rows.now }
+    requires total { total ≡ sum_by (movable_of side floor) rows.now }
     ensures moved { result.moved ≡ sum_by (above side floor result.level) rows.now }
     ensures fits { result.moved ≤ count }
     ensures tight { 0 < result.level → count < sum_by (above side floor (result.level - 1)) rows.now }

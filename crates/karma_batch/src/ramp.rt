@@ -1,9 +1,14 @@
-ghost use Rattle.std.specs.Prelude.{◌≡◌, ℕ, ◌+◌, ◌^◌, ◌<◌, ◌≤◌, length, take, sum_by, All};
+//! Ramps: what each row moves while a level falls.
+
+ghost use Rattle.std.specs.Prelude.{◌≡◌, ℕ, ◌+◌, ◌<◌, ◌≤◌, length, take, sum_by, All};
 ghost use Rattle.karma_rule.specs.OpenRow.{IsOpenRow};
 ghost use Rattle.karma_batch.specs.Levels.{above, over};
 
-use crate::side::{Side, TOP, key, room};
-use karma_rule::Row;
+use crate::side::{Side, key, room};
+use karma_rule::{CREDITS_TOP, MOST_DEMAND, MOST_USERS, Row};
+
+/// How many slices the rows of a quantum move at most.
+pub const MOST_MOVED: u64 = MOST_USERS * MOST_DEMAND;
 
 /// What a row moves while the level falls: one slice for each level from `to` down to `from`.
 #[derive(Clone, Copy)]
@@ -42,7 +47,7 @@ pub fn gather(rows: &[Row], side: Side, floor: u64, ramps: &mut [Ramp]) -> Ramps
 {
     let mut count = 0usize;
     let mut tops = 0u128;
-    let mut lowest = TOP;
+    let mut lowest = CREDITS_TOP;
     let mut highest = 0;
     for row in rows {
         let room = room(row, side, floor);
@@ -63,6 +68,7 @@ pub fn gather(rows: &[Row], side: Side, floor: u64, ramps: &mut [Ramp]) -> Ramps
     }
 }
 
+/// How many slices the ramp moves until it is down at the level.
 fn over_level(ramp: Ramp, level: u64) -> u64
     ensures { result ≡ over level ramp }
 {
@@ -71,8 +77,8 @@ fn over_level(ramp: Ramp, level: u64) -> u64
 
 /// How many slices the ramps move until all are down at the level, and at the next one.
 pub fn sums_over(ramps: &[Ramp], level: u64) -> Sums
-    requires level { level < 2 ^ 63 }
-    requires small { sum_by (over level) ramps.now ≤ 2 ^ 52 }
+    requires level { level < CREDITS_TOP }
+    requires small { sum_by (over level) ramps.now ≤ MOST_MOVED }
     ensures here { result.here ≡ sum_by (over level) ramps.now }
     ensures next { result.next ≡ sum_by (over (level + 1)) ramps.now }
 {

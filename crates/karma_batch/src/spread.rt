@@ -1,11 +1,14 @@
+//! A count of slices moved in the order of the keys: down to a level, and then by the users' numbers.
+
 ghost use Rattle.std.specs.Prelude.{◌≡◌, ◌+◌, ◌^◌, ◌<◌, ◌≤◌, length, sum_by, All};
 ghost use Rattle.karma_rule.specs.OpenRow.{IsOpenRow};
-ghost use Rattle.karma_batch.specs.Levels.{key_of, room_of, moved_by, extra, amount, amounts, all_moved, Spreads};
+ghost use Rattle.karma_batch.specs.Levels.{key_of, movable_of, moved_by, extra, amount, amounts, all_moved, Spreads};
 
 use crate::level::level_for;
 use crate::side::{Side, key, part_above, room};
-use karma_rule::Row;
+use karma_rule::{MOST_FAIR, MOST_USERS, Row};
 
+/// Moves so many slices of the row: a borrower pays for each, a donor earns for each.
 fn move_by(row: &mut Row, side: Side, slices: u64)
     requires credits { row.old.credits + slices < 2 ^ 64 }
     requires given { row.old.given + slices < 2 ^ 64 }
@@ -22,7 +25,7 @@ fn move_by(row: &mut Row, side: Side, slices: u64)
 /// Moves the row's slices above the level, and one more where it is at the level then and `rest` isn't used up. The
 /// answer is how many of the rest it used.
 fn move_part(row: &mut Row, side: Side, floor: u64, level: u64, rest: u64) -> u64
-    requires floor { floor ≤ 2 ^ 32 }
+    requires floor { floor ≤ MOST_FAIR }
     requires row_open { IsOpenRow floor row.old }
     ensures moved { row.new ≡ moved_by side row.old (amount side floor level rest row.old) }
     ensures extra { result ≡ extra side floor level rest row.old }
@@ -36,7 +39,7 @@ fn move_part(row: &mut Row, side: Side, floor: u64, level: u64, rest: u64) -> u6
 
 /// Moves all slices above the level, and of the rest one for each row at the level, by number.
 fn spread_at(rows: &mut [Row], side: Side, floor: u64, level: u64, mut rest: u64)
-    requires floor { floor ≤ 2 ^ 32 }
+    requires floor { floor ≤ MOST_FAIR }
     requires rows_open { All (IsOpenRow floor) rows.old }
     ensures { rows.new ≡ all_moved side rows.old (amounts side floor level rest rows.old) }
 {
@@ -47,10 +50,10 @@ fn spread_at(rows: &mut [Row], side: Side, floor: u64, level: u64, mut rest: u64
 
 /// Moves `count` of the `total` slices that a side can move, each by the row that comes first then.
 pub fn spread_count(rows: &mut [Row], side: Side, floor: u64, total: u64, count: u64)
-    requires users { length rows.old ≤ 1024 }
-    requires floor { floor ≤ 2 ^ 32 }
+    requires users { length rows.old ≤ MOST_USERS }
+    requires floor { floor ≤ MOST_FAIR }
     requires rows_open { All (IsOpenRow floor) rows.old }
-    requires total { total ≡ sum_by (room_of side floor) rows.old }
+    requires total { total ≡ sum_by (movable_of side floor) rows.old }
     requires count { count ≤ total }
     ensures { Spreads side floor count rows.old rows.new }
 {

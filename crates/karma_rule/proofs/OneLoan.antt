@@ -10,122 +10,122 @@ use Rattle.karma_rule.proofs.Changes.{length-change_at, change_at-set}
 use Rattle.karma_rule.proofs.Loans.{more_credits, fewer_credits, nobody, lendable_donated, lendable_shared}
 
 abbrev pub at : List User → ℕ → User
-at users k = get_or users k nobody
+at users place = get_or users place nobody
 
 abbrev pub NeedsOne : User → Type 0
-NeedsOne u = (u.row.given < u.row.demand) × (0 < u.row.credits)
+NeedsOne user = (user.row.given < user.row.demand) × (0 < user.row.credits)
 
 -- a loan to b, from d or, where d is past the end, of a shared slice
-pub record IsLoan (users after : List User) (b d : ℕ) : Type 0 where
+pub record IsLoan (users after : List User) (borrower donor : ℕ) : Type 0 where
   pub same_length : length after ≡ length users
-  pub b_within : b < length users
-  pub b_needs : NeedsOne (at users b)
-  pub b_richest : (k : ℕ) → k < length users → NeedsOne (at users k) → (at users k).row.credits ≤ (at users b).row.credits
-  pub b_first : (k : ℕ) → k < b → NeedsOne (at users k) → (at users k).row.credits < (at users b).row.credits
-  pub d_left : d < length users → 0 < (at users d).left
-  pub d_poorest : d < length users → (k : ℕ) → k < length users → 0 < (at users k).left → (at users d).row.credits ≤ (at users k).row.credits
-  pub d_first : d < length users → (k : ℕ) → k < d → 0 < (at users k).left → (at users d).row.credits < (at users k).row.credits
-  pub after_is : after ≡ change_at lend (change_at borrow users b) d
+  pub borrower_within : borrower < length users
+  pub borrower_needs : NeedsOne (at users borrower)
+  pub borrower_richest : (place : ℕ) → place < length users → NeedsOne (at users place) → (at users place).row.credits ≤ (at users borrower).row.credits
+  pub borrower_first : (place : ℕ) → place < borrower → NeedsOne (at users place) → (at users place).row.credits < (at users borrower).row.credits
+  pub donor_left : donor < length users → 0 < (at users donor).left
+  pub donor_poorest : donor < length users → (place : ℕ) → place < length users → 0 < (at users place).left → (at users donor).row.credits ≤ (at users place).row.credits
+  pub donor_first : donor < length users → (place : ℕ) → place < donor → 0 < (at users place).left → (at users donor).row.credits < (at users place).row.credits
+  pub after_is : after ≡ change_at lend (change_at borrow users borrower) donor
 
-needs_from_test : (u : User) → can_borrow u ≡ true → NeedsOne u
-needs_from_test u h = (grind (arith, nat_tests), grind (arith, nat_tests))
+needs_from_test : (user : User) → can_borrow user ≡ true → NeedsOne user
+needs_from_test user test = (grind (arith, nat_tests), grind (arith, nat_tests))
 
-test_from_needs : (u : User) → NeedsOne u → can_borrow u ≡ true
-test_from_needs u h = let a : u.row.given < u.row.demand = h.0 in let b : 0 < u.row.credits = h.1 in grind (arith, nat_tests)
+test_from_needs : (user : User) → NeedsOne user → can_borrow user ≡ true
+test_from_needs user needs = let unmet : user.row.given < user.row.demand = needs.0 in let pays : 0 < user.row.credits = needs.1 in grind (arith, nat_tests)
 
-left_from_test : (u : User) → can_lend u ≡ true → 0 < u.left
-left_from_test u h = grind (arith, nat_tests)
+left_from_test : (user : User) → can_lend user ≡ true → 0 < user.left
+left_from_test user test = grind (arith, nat_tests)
 
-test_from_left : (u : User) → 0 < u.left → can_lend u ≡ true
-test_from_left u h = grind (arith, nat_tests)
+test_from_left : (user : User) → 0 < user.left → can_lend user ≡ true
+test_from_left user left = grind (arith, nat_tests)
 
-not_richer : (u v : User) → is_richer u v ≡ false → u.row.credits ≤ v.row.credits
-not_richer u v h = grind (arith, nat_tests)
+not_richer : (user other : User) → is_richer user other ≡ false → user.row.credits ≤ other.row.credits
+not_richer user other test = grind (arith, nat_tests)
 
-richer : (u v : User) → is_richer u v ≡ true → v.row.credits < u.row.credits
-richer u v h = grind (arith, nat_tests)
+richer : (user other : User) → is_richer user other ≡ true → other.row.credits < user.row.credits
+richer user other test = grind (arith, nat_tests)
 
-not_poorer : (u v : User) → is_poorer u v ≡ false → v.row.credits ≤ u.row.credits
-not_poorer u v h = grind (arith, nat_tests)
+not_poorer : (user other : User) → is_poorer user other ≡ false → other.row.credits ≤ user.row.credits
+not_poorer user other test = grind (arith, nat_tests)
 
-poorer : (u v : User) → is_poorer u v ≡ true → u.row.credits < v.row.credits
-poorer u v h = grind (arith, nat_tests)
+poorer : (user other : User) → is_poorer user other ≡ true → user.row.credits < other.row.credits
+poorer user other test = grind (arith, nat_tests)
 
-pub loan_donated : (users : List User) (b d : ℕ) → next_borrower users ≡ Some b → next_donor users ≡ Some d → IsLoan users (change_at lend (change_at borrow users b) d) b d
-loan_donated users b d eb ed =
-    let hb : IsFirstBest can_borrow is_richer users (length users) b = IsFirstBest-from_first_best can_borrow is_richer more_credits users b eb in
-    let hd : IsFirstBest can_lend is_poorer users (length users) d = IsFirstBest-from_first_best can_lend is_poorer fewer_credits users d ed in
+pub loan_donated : (users : List User) (borrower donor : ℕ) → next_borrower users ≡ Some borrower → next_donor users ≡ Some donor → IsLoan users (change_at lend (change_at borrow users borrower) donor) borrower donor
+loan_donated users borrower donor borrower_is donor_is =
+    let best_borrower : IsFirstBest can_borrow is_richer users (length users) borrower = IsFirstBest-from_first_best can_borrow is_richer more_credits users borrower borrower_is in
+    let best_donor : IsFirstBest can_lend is_poorer users (length users) donor = IsFirstBest-from_first_best can_lend is_poorer fewer_credits users donor donor_is in
     record {
-      same_length = length-change_at lend (change_at borrow users b) d ∙ length-change_at borrow users b;
-      b_within = hb.within;
-      b_needs = needs_from_test (at users b) (hb.passing nobody);
-      b_richest = λ k l n. not_richer (at users k) (at users b) (hb.none_better k nobody l (test_from_needs (at users k) n));
-      b_first = λ k l n. richer (at users b) (at users k) (hb.better_than_before k nobody l (test_from_needs (at users k) n));
-      d_left = λ _. left_from_test (at users d) (hd.passing nobody);
-      d_poorest = λ _ k l n. not_poorer (at users k) (at users d) (hd.none_better k nobody l (test_from_left (at users k) n));
-      d_first = λ _ k l n. poorer (at users d) (at users k) (hd.better_than_before k nobody l (test_from_left (at users k) n));
+      same_length = length-change_at lend (change_at borrow users borrower) donor ∙ length-change_at borrow users borrower;
+      borrower_within = best_borrower.within;
+      borrower_needs = needs_from_test (at users borrower) (best_borrower.passing nobody);
+      borrower_richest = λ place inside needs. not_richer (at users place) (at users borrower) (best_borrower.none_better place nobody inside (test_from_needs (at users place) needs));
+      borrower_first = λ place inside needs. richer (at users borrower) (at users place) (best_borrower.better_than_before place nobody inside (test_from_needs (at users place) needs));
+      donor_left = λ _. left_from_test (at users donor) (best_donor.passing nobody);
+      donor_poorest = λ _ place inside needs. not_poorer (at users place) (at users donor) (best_donor.none_better place nobody inside (test_from_left (at users place) needs));
+      donor_first = λ _ place inside needs. poorer (at users donor) (at users place) (best_donor.better_than_before place nobody inside (test_from_left (at users place) needs));
       after_is = refl;
     }
 
-change_past : (f : User → User) (xs : List User) → change_at f xs (length xs) ≡ xs
-change_past f xs = change_at-set f xs (length xs) nobody ∙ set_past xs (length xs) (f (at xs (length xs))) (omega arith)
+change_past : (change : User → User) (xs : List User) → change_at change xs (length xs) ≡ xs
+change_past change xs = change_at-set change xs (length xs) nobody ∙ set_past xs (length xs) (change (at xs (length xs))) (omega arith)
 
-pub loan_shared : (users : List User) (b : ℕ) → next_borrower users ≡ Some b → IsLoan users (change_at borrow users b) b (length users)
-loan_shared users b eb =
-    let hb : IsFirstBest can_borrow is_richer users (length users) b = IsFirstBest-from_first_best can_borrow is_richer more_credits users b eb in
-    let same : length (change_at borrow users b) ≡ length users = length-change_at borrow users b in
+pub loan_shared : (users : List User) (borrower : ℕ) → next_borrower users ≡ Some borrower → IsLoan users (change_at borrow users borrower) borrower (length users)
+loan_shared users borrower borrower_is =
+    let best_borrower : IsFirstBest can_borrow is_richer users (length users) borrower = IsFirstBest-from_first_best can_borrow is_richer more_credits users borrower borrower_is in
+    let same : length (change_at borrow users borrower) ≡ length users = length-change_at borrow users borrower in
     record {
       same_length = same;
-      b_within = hb.within;
-      b_needs = needs_from_test (at users b) (hb.passing nobody);
-      b_richest = λ k l n. not_richer (at users k) (at users b) (hb.none_better k nobody l (test_from_needs (at users k) n));
-      b_first = λ k l n. richer (at users b) (at users k) (hb.better_than_before k nobody l (test_from_needs (at users k) n));
-      d_left = λ l. absurd (omega arith);
-      d_poorest = λ l k m n. absurd (omega arith);
-      d_first = λ l k m n. absurd (omega arith);
-      after_is = sym (ap (change_at lend (change_at borrow users b)) (sym same) ∙ change_past lend (change_at borrow users b));
+      borrower_within = best_borrower.within;
+      borrower_needs = needs_from_test (at users borrower) (best_borrower.passing nobody);
+      borrower_richest = λ place inside needs. not_richer (at users place) (at users borrower) (best_borrower.none_better place nobody inside (test_from_needs (at users place) needs));
+      borrower_first = λ place inside needs. richer (at users borrower) (at users place) (best_borrower.better_than_before place nobody inside (test_from_needs (at users place) needs));
+      donor_left = λ inside. absurd (omega arith);
+      donor_poorest = λ inside place there needs. absurd (omega arith);
+      donor_first = λ inside place there needs. absurd (omega arith);
+      after_is = sym (ap (change_at lend (change_at borrow users borrower)) (sym same) ∙ change_past lend (change_at borrow users borrower));
     }
 
 -- What the next step does: nothing, since nobody can borrow or no slice is left, or a loan that takes a slice.
-pub data NextStep (q : Quantum) : Type 0 where
-  nobody_borrows : next q ≡ q → ((k : ℕ) → k < length q.users → NeedsOne (at q.users k) → ⊥) → NextStep q
-  none_left : next q ≡ q → lendable q ≡ 0 → NextStep q
-  loaned : (b d : ℕ) → IsLoan q.users (next q).users b d → lendable q ≡ lendable (next q) + 1 → NextStep q
+pub data NextStep (state : Quantum) : Type 0 where
+  nobody_borrows : next state ≡ state → ((place : ℕ) → place < length state.users → NeedsOne (at state.users place) → ⊥) → NextStep state
+  none_left : next state ≡ state → lendable state ≡ 0 → NextStep state
+  loaned : (borrower donor : ℕ) → IsLoan state.users (next state).users borrower donor → lendable state ≡ lendable (next state) + 1 → NextStep state
 
-clash : (v : Bool) → v ≡ true → v ≡ false → ⊥
-clash v p q = cc
+clash : (test : Bool) → test ≡ true → test ≡ false → ⊥
+clash test holds fails = cc
 
-no_left : (u : User) → can_lend u ≡ false → u.left ≤ 0
-no_left u h = grind (arith, nat_tests)
+no_left : (user : User) → can_lend user ≡ false → user.left ≤ 0
+no_left user test = grind (arith, nat_tests)
 
 abbrev pub quantum : List User → ℕ → Quantum
 quantum users shared = record { users = users; shared = shared }
 
-pub nothing_left : (users : List User) → ((k : ℕ) (d : User) → k < length users → can_lend (get_or users k d) ≡ false) → sum_by (λ (u : User). u.left) users ≡ 0
-nothing_left users h =
-    let le : sum_by (λ (u : User). u.left) users ≤ length users * 0 = sum_by-le (λ (u : User). u.left) 0 users (λ k d l. no_left (get_or users k d) (h k d l)) in
-    omega (arith, le)
+pub nothing_left : (users : List User) → ((place : ℕ) (default : User) → place < length users → can_lend (get_or users place default) ≡ false) → sum_by (λ (user : User). user.left) users ≡ 0
+nothing_left users none =
+    let at_most : sum_by (λ (user : User). user.left) users ≤ length users * 0 = sum_by-le (λ (user : User). user.left) 0 users (λ place default inside. no_left (get_or users place default) (none place default inside)) in
+    omega (arith, at_most)
 
-pub step_by : (users : List User) (shared : ℕ) (b d : Option ℕ) → next_borrower users ≡ b → next_donor users ≡ d → next (quantum users shared) ≡ loan b d users shared
-step_by users shared b d eb ed = ap (λ o. loan o (next_donor users) users shared) eb ∙ ap (λ o. loan b o users shared) ed
+pub step_by : (users : List User) (shared : ℕ) (borrower donor : Option ℕ) → next_borrower users ≡ borrower → next_donor users ≡ donor → next (quantum users shared) ≡ loan borrower donor users shared
+step_by users shared borrower donor borrower_is donor_is = ap (λ choice. loan choice (next_donor users) users shared) borrower_is ∙ ap (λ choice. loan borrower choice users shared) donor_is
 
-step_cases : (users : List User) (shared : ℕ) (b d : Option ℕ) → next_borrower users ≡ b → next_donor users ≡ d → NextStep (quantum users shared)
-step_cases users shared None d eb ed =
-    nobody_borrows (step_by users shared None d eb ed)
-    (λ k l n. clash (can_borrow (at users k)) (test_from_needs (at users k) n) (IsFirstBest-none can_borrow is_richer more_credits users eb k nobody l))
-step_cases users shared (Some b) (Some d) eb ed =
-    let e : next (quantum users shared) ≡ loan (Some b) (Some d) users shared = step_by users shared (Some b) (Some d) eb ed in
-    loaned b d
-    (subst (λ (us : List User). IsLoan users us b d) (sym (ap (λ q. q.users) e)) (loan_donated users b d eb ed))
-    (lendable_donated users shared b d ed ∙ ap (λ q. lendable q + 1) (sym e))
-step_cases users zero (Some b) None eb ed =
-    let none : sum_by (λ (u : User). u.left) users ≡ 0 = nothing_left users (IsFirstBest-none can_lend is_poorer fewer_credits users ed) in
-    none_left (step_by users zero (Some b) None eb ed) (omega arith)
-step_cases users (suc shared) (Some b) None eb ed =
-    let e : next (quantum users (suc shared)) ≡ loan (Some b) None users (suc shared) = step_by users (suc shared) (Some b) None eb ed in
-    loaned b (length users)
-    (subst (λ (us : List User). IsLoan users us b (length users)) (sym (ap (λ q. q.users) e)) (loan_shared users b eb))
-    (lendable_shared users shared b ∙ ap (λ q. lendable q + 1) (sym e))
+step_cases : (users : List User) (shared : ℕ) (borrower donor : Option ℕ) → next_borrower users ≡ borrower → next_donor users ≡ donor → NextStep (quantum users shared)
+step_cases users shared None donor borrower_is donor_is =
+    nobody_borrows (step_by users shared None donor borrower_is donor_is)
+    (λ place inside needs. clash (can_borrow (at users place)) (test_from_needs (at users place) needs) (IsFirstBest-none can_borrow is_richer more_credits users borrower_is place nobody inside))
+step_cases users shared (Some borrower) (Some donor) borrower_is donor_is =
+    let stepped : next (quantum users shared) ≡ loan (Some borrower) (Some donor) users shared = step_by users shared (Some borrower) (Some donor) borrower_is donor_is in
+    loaned borrower donor
+    (subst (λ (after : List User). IsLoan users after borrower donor) (sym (ap (λ state. state.users) stepped)) (loan_donated users borrower donor borrower_is donor_is))
+    (lendable_donated users shared borrower donor donor_is ∙ ap (λ state. lendable state + 1) (sym stepped))
+step_cases users zero (Some borrower) None borrower_is donor_is =
+    let none : sum_by (λ (user : User). user.left) users ≡ 0 = nothing_left users (IsFirstBest-none can_lend is_poorer fewer_credits users donor_is) in
+    none_left (step_by users zero (Some borrower) None borrower_is donor_is) (omega arith)
+step_cases users (suc shared) (Some borrower) None borrower_is donor_is =
+    let stepped : next (quantum users (suc shared)) ≡ loan (Some borrower) None users (suc shared) = step_by users (suc shared) (Some borrower) None borrower_is donor_is in
+    loaned borrower (length users)
+    (subst (λ (after : List User). IsLoan users after borrower (length users)) (sym (ap (λ state. state.users) stepped)) (loan_shared users borrower borrower_is))
+    (lendable_shared users shared borrower ∙ ap (λ state. lendable state + 1) (sym stepped))
 
-pub next_step : (q : Quantum) → NextStep q
-next_step q = step_cases q.users q.shared (next_borrower q.users) (next_donor q.users) refl refl
+pub next_step : (state : Quantum) → NextStep state
+next_step state = step_cases state.users state.shared (next_borrower state.users) (next_donor state.users) refl refl

@@ -79,9 +79,9 @@ abbrev pub next : Quantum → Quantum
 next quantum = loan (next_borrower quantum.users) (next_donor quantum.users) quantum.users quantum.shared
 
 -- ---- the whole quantum
-abbrev pub after : ℕ → Quantum → Quantum
-after zero quantum = quantum
-after (suc loans) quantum = after loans (next quantum)
+abbrev pub after_loans : ℕ → Quantum → Quantum
+after_loans zero quantum = quantum
+after_loans (suc loans) quantum = after_loans loans (next quantum)
 
 -- how many slices can be lent at most
 abbrev pub lendable : Quantum → ℕ
@@ -89,7 +89,7 @@ lendable quantum = sum_by (λ user. user.left) quantum.users + quantum.shared
 
 -- Each loan takes a slice, so after as many loans as there are slices to lend none is possible.
 unfoldable pub closing : Quantum → Quantum
-closing quantum = after (lendable quantum) quantum
+closing quantum = after_loans (lendable quantum) quantum
 
 abbrev pub row_of : User → Row
 row_of user = user.row

@@ -1,6 +1,7 @@
 -- The limits of a shape's numbers.
-use Rattle.std.specs.Prelude.{◌≡◌, ℕ, ◌*◌, ◌^◌, ◌<◌, ◌≤◌}
+use Rattle.std.specs.Prelude.{◌≡◌, ℕ, ◌*◌, ◌<◌, ◌≤◌}
 use Rattle.karma_rule.specs.declared.shape.Shape.{Shape}
+use Rattle.karma_rule.specs.declared.limits.TheConstants.{MOST_USERS, MOST_FAIR, MOST_CREDITS, LEAST_SLICE, MOST_SLICE, MOST_BYTES, MOST_ROOM}
 
 abbrev pub shape_of : ℕ → ℕ → ℕ → ℕ → ℕ → Shape
 shape_of users fair floor credits slice = record { users = users; share = record { fair = fair; floor = floor }; credits = credits; slice = slice }
@@ -20,12 +21,12 @@ place_of Products = 6
 
 -- The products are the bytes of all slices, and the room for slices that all users reserve, each for every slice.
 abbrev pub IsWithin : Limit → Shape → Type 0
-IsWithin Users shape = (1 ≤ shape.users) × (shape.users ≤ 1024)
-IsWithin Fair shape = (1 ≤ shape.share.fair) × (shape.share.fair ≤ 2 ^ 32)
+IsWithin Users shape = (1 ≤ shape.users) × (shape.users ≤ MOST_USERS)
+IsWithin Fair shape = (1 ≤ shape.share.fair) × (shape.share.fair ≤ MOST_FAIR)
 IsWithin Floor shape = shape.share.floor ≤ shape.share.fair
-IsWithin Credits shape = shape.credits ≤ 2 ^ 60
-IsWithin Slice shape = (64 ≤ shape.slice) × (shape.slice ≤ 65536)
-IsWithin Products shape = (shape.users * shape.share.fair * shape.slice ≤ 2 ^ 30) × (shape.users * shape.users * shape.share.fair ≤ 2 ^ 22)
+IsWithin Credits shape = shape.credits ≤ MOST_CREDITS
+IsWithin Slice shape = (LEAST_SLICE ≤ shape.slice) × (shape.slice ≤ MOST_SLICE)
+IsWithin Products shape = (shape.users * shape.share.fair * shape.slice ≤ MOST_BYTES) × (shape.users * shape.users * shape.share.fair ≤ MOST_ROOM)
 
 -- within the limits of a plan, which only counts slices
 pub record IsPlan (shape : Shape) : Type 0 where

@@ -1,6 +1,7 @@
 -- The rows of a quantum that is open: how they stand for its users.
-use Rattle.std.specs.Prelude.{ℕ, ◌+◌, ◌-◌, ◌^◌, ◌<◌, ◌≤◌, min, max, Bool, ◌&&◌, nat_lt, List, map}
+use Rattle.std.specs.Prelude.{ℕ, ◌+◌, ◌-◌, ◌<◌, ◌≤◌, min, max, Bool, ◌&&◌, nat_lt, List, map}
 use Rattle.karma_rule.specs.declared.row.Row.{Row}
+use Rattle.karma_rule.specs.declared.limits.TheConstants.{MOST_DEMAND, CREDITS_TOP}
 use Rattle.karma_rule.specs.Karma.{User, Quantum}
 
 -- At the close, what was lent is no longer counted.
@@ -18,8 +19,8 @@ quantum_of floor rows shared = record { users = map (user_of floor) rows; shared
 pub record IsOpenRow (floor : ℕ) (row : Row) : Type 0 where
   pub filled : min floor row.demand ≤ row.given
   pub wanted : row.given ≤ max row.demand floor
-  pub small : row.demand ≤ 2 ^ 42
-  pub room : row.credits + (floor - row.given) < 2 ^ 63
+  pub small : row.demand ≤ MOST_DEMAND
+  pub room : row.credits + (floor - row.given) < CREDITS_TOP
 
 abbrev pub row_borrows : Row → Bool
 row_borrows row = nat_lt row.given row.demand && nat_lt 0 row.credits

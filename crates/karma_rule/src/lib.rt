@@ -6,10 +6,15 @@
 //! rule step by step, and `specs/Karma.antt` is its definition.
 #![tactic(auto)]
 
+mod limits;
 mod plain;
 mod row;
 mod shape;
 
+pub use limits::{
+    CREDITS_BOUND, CREDITS_TOP, LEAST_SLICE, MOST_BYTES, MOST_CREDITS, MOST_DEMAND, MOST_FAIR,
+    MOST_ROOM, MOST_SLICE, MOST_USERS,
+};
 pub use plain::{close_rows, open_rows, plain_quantum};
-pub use row::{MOST_DEMAND, Row, Share};
+pub use row::{Row, Share};
 pub use shape::{BadShape, Shape};

@@ -1,36 +1,21 @@
-ghost use Rattle.std.specs.Prelude.{◌≡◌, ℕ, ◌+◌, ◌-◌, ◌*◌, ◌^◌, ◌<◌, ◌≤◌, length, map, All, EachIndex};
+//! The rule's plain body: one loan after the other.
+
+ghost use Rattle.std.specs.Prelude.{◌≡◌, ◌+◌, ◌≤◌, length, map, All};
 ghost use Rattle.std.specs.Bool.{OnTrue, OnFalse};
-ghost use Rattle.karma_rule.specs.Karma.{first_best, opened, next, lendable, karma};
-ghost use Rattle.karma_rule.specs.Laws.{demand_of, row_at, total_given, usable, IsLevelled};
+ghost use Rattle.karma_rule.specs.Karma.{first_best, opened, next, lendable};
+ghost use Rattle.karma_rule.specs.Quanta.{CanMakeQuantum, MakesQuantum};
 ghost use Rattle.karma_rule.specs.OpenRow.{user_of, quantum_of, closed, IsOpenRow, row_borrows, row_lends, has_more, has_fewer};
 
+use crate::limits::MOST_USERS;
 use crate::row::{Row, Share};
 
 /// Makes one quantum: the rows become those that Karma's rule gives, by one loan after the other.
 ///
 /// It takes no memory, and a time that grows with the count of loans.
 pub fn plain_quantum(rows: &mut [Row], share: Share)
-    requires users { length rows.old ≤ 1024 }
-    requires fair { share.fair ≤ 2 ^ 32 }
-    requires floor { share.floor ≤ share.fair }
-    requires demands { All (λ row. row.demand ≤ 2 ^ 42) rows.old }
-    requires credits { All (λ row. row.credits < 2 ^ 62 - 2 ^ 32) rows.old }
-    ensures rows { rows.new ≡ karma rows.old share }
-
-    // Each user's demand stands, and it is given no more than it wants.
-    ensures demands { map demand_of rows.new ≡ map demand_of rows.old }
-    ensures wanted { All (λ row. row.given ≤ row.demand) rows.new }
-
-    // Credits and slices together come from the credits before and the fair share.
-    ensures paid { EachIndex rows.old (λ user.
-        (row_at rows.new user).credits + (row_at rows.new user).given
-        ≤ (row_at rows.old user).credits + share.fair) }
-
-    // All that is of use is given, where nobody who wants more is out of credits.
-    ensures within { total_given rows.new ≤ usable rows.old share }
-    ensures used { All (λ row. row.given < row.demand → 0 < row.credits) rows.new
-        → total_given rows.new ≡ usable rows.old share }
-    ensures levelled { IsLevelled rows.old rows.new share }
+    requires users { length rows.old ≤ MOST_USERS }
+    requires ready { CanMakeQuantum rows.old share }
+    ensures { MakesQuantum rows.old rows.new share }
 {
     open_rows(rows, share);
     let mut shared = rows.len() as u64 * (share.fair - share.floor);
@@ -42,10 +27,7 @@ pub fn plain_quantum(rows: &mut [Row], share: Share)
 ///
 /// Until `close_rows`, a row's `given` counts the slices of its floor that are in use, lent ones too.
 pub fn open_rows(rows: &mut [Row], share: Share)
-    requires fair { share.fair ≤ 2 ^ 32 }
-    requires floor { share.floor ≤ share.fair }
-    requires demands { All (λ row. row.demand ≤ 2 ^ 42) rows.old }
-    requires credits { All (λ row. row.credits < 2 ^ 62 - 2 ^ 32) rows.old }
+    requires { CanMakeQuantum rows.old share }
     ensures users { map (user_of share.floor) rows.new ≡ map (opened share) rows.old }
     ensures rows_open { All (IsOpenRow share.floor) rows.new }
 {

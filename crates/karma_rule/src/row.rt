@@ -1,5 +1,4 @@
-/// The greatest demand of a user, in slices.
-pub const MOST_DEMAND: u64 = 1 << 42;
+//! A user's row of a quantum, and what each user has a right to.
 
 /// One user's line of a quantum. A user's number is the place of its row.
 #[derive(Clone, Copy, Debug, PartialEq, Eq)]

@@ -1,21 +1,14 @@
+//! The shape of a pool: its fixed numbers, tested against their limits.
+
 ghost use Rattle.std.specs.Prelude.{◌≡◌, ◌≤◌, IfOk, IfErr};
 ghost use Rattle.karma_rule.specs.Limits.{shape_of, IsPlan, IsStore, IsFirstBroken};
 
+use crate::limits::{
+    LEAST_SLICE, MOST_BYTES, MOST_CREDITS, MOST_FAIR, MOST_ROOM, MOST_SLICE, MOST_USERS,
+};
 use crate::row::Share;
-
-const MOST_USERS: u64 = 1024;
-
-const MOST_FAIR: u64 = 1 << 32;
-
-const MOST_CREDITS: u64 = 1 << 60;
-
-const LEAST_SLICE: u64 = 64;
-
-const MOST_SLICE: u64 = 65536;
-/// How many bytes all slices may have together.
-const MOST_BYTES: u64 = 1 << 30;
-/// How many slices all users together may reserve room for, where each reserves room for every slice.
-const MOST_ROOM: u64 = 1 << 22;
+use std::error::Error;
+use std::fmt;
 
 /// The fixed numbers of a pool: how many users share it, what each has a right to, the credits that each starts
 /// with, and the size of a slice in bytes, which is 0 where slices are only counted.
@@ -37,6 +30,24 @@ pub struct Shape {
 pub struct BadShape {
     pub place: u8,
 }
+
+impl fmt::Display for BadShape {
+    fn fmt<W: fmt::Write>(&self, f: &mut fmt::Formatter<W>) -> fmt::Result {
+        match self.place {
+            1 => write!(f, "a pool has 1 to {MOST_USERS} users"),
+            2 => write!(f, "a fair share is 1 to {MOST_FAIR} slices"),
+            3 => f.write_str("the floor is at most the fair share"),
+            4 => write!(f, "a user starts with at most {MOST_CREDITS} credits"),
+            5 => write!(f, "a slice has {LEAST_SLICE} to {MOST_SLICE} bytes"),
+            _ => write!(
+                f,
+                "all slices have at most {MOST_BYTES} bytes, and all users room for at most {MOST_ROOM} slices"
+            ),
+        }
+    }
+}
+
+impl Error for BadShape {}
 
 impl Shape {
     /// The shape of a plan, which only counts slices: its slice size is 0.

@@ -18,7 +18,7 @@ use Rattle.quantum_text.specs.declared.read.ReportTextEnd.{ReportTextEnd}
 use Rattle.quantum_text.specs.declared.read.ReportTextEnd.TheVariants.{End, BadLine, ReadFault}
 use Rattle.quantum_text.specs.LineKind.{block_kinds, word_of, limit_of, count_of, numbers_of}
 use Rattle.quantum_text.specs.Block.{line_text, ended_line, report_text, IsBlock}
-use Rattle.quantum_text.specs.Reading.{BeginsWith, ReadsBadLine, ReadsBlock, Fits, IsReadAgain}
+use Rattle.quantum_text.specs.Reading.{BeginsWith, ReadsBadLine, ReadsBlock, LinesFit, IsReadAgain}
 use Rattle.quantum_text.proofs.Words.{line_words, numbers_fit}
 use Rattle.quantum_text.proofs.Rows.{length_numbers}
 use Rattle.quantum_text.proofs.Sent.{kinds_text, kinds_text_append, all_kinds_text}
@@ -60,7 +60,7 @@ line_of_whole : (bytes : List ℕ) → HasNoEnd bytes → line_of bytes ≡ byte
 line_of_whole [] none = line_of_none
 line_of_whole (b ∷ bs) none = line_of_more b bs none.0 ∙ ap (λ t. b ∷ t) (line_of_whole bs none.1)
 
-line_text_whole : (kind : LineKind) (numbers : List ℕ) → All (λ n. n ≤ limit_of kind) numbers → line_of (line_text kind numbers) ≡ line_text kind numbers
+pub line_text_whole : (kind : LineKind) (numbers : List ℕ) → All (λ n. n ≤ limit_of kind) numbers → line_of (line_text kind numbers) ≡ line_text kind numbers
 unfolding line_text
 line_text_whole kind numbers within =
     line_of_whole (word_of kind ++ spaced numbers) (no_end_append (word_of kind) (spaced numbers) (no_end_word kind) (no_end_spaced numbers (numbers_fit kind numbers within)))
@@ -134,7 +134,7 @@ begins_text report more block none =
     no_line_none Quantum (length report.rows) numbers (record { spelled = sym empty; many = refl; within = block Quantum })
 
 bad_again : (limit number : ℕ) (before now : Option (List ℕ)) (old new report : Report) (more : List ℕ) (line : ℕ) → ReadsBadLine limit number before now old new line
-    → before ≡ Some (report_text report ++ more) → IsBlock report → length report.rows ≡ length old.rows → Fits limit report → ⊥
+    → before ≡ Some (report_text report ++ more) → IsBlock report → length report.rows ≡ length old.rows → LinesFit limit report → ⊥
 bad_again limit number before now old new report more line reads text block users fits =
     let stops = reads.stops in
     let bytes = report_text report ++ more in

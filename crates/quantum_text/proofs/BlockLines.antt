@@ -144,3 +144,6 @@ lines_none limit before report = record {
 
 pub counted_on : (number i read later : ℕ) → later ≡ one_more read → one_more read ≡ min (number + i + 1) (2 ^ 64 - 1) → one_more later ≡ min (number + (i + 1) + 1) (2 ^ 64 - 1)
 counted_on number i read later next counted = omega arith
+
+pub counted_lines : (number i read later : ℕ) → later ≡ one_more read → one_more read ≡ min (number + i + 1) (2 ^ 64 - 1) → later ≡ min (number + (i + 1)) (2 ^ 64 - 1)
+counted_lines number i read later next counted = omega arith

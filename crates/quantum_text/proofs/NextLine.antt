@@ -9,7 +9,7 @@ use Rattle.far_io.proofs.LineLaws.{lines_of_none, line_of_none}
 use Rattle.demand_book.specs.declared.report.Report.{Report}
 use Rattle.quantum_text.specs.declared.line_kind.LineKind.{LineKind}
 use Rattle.quantum_text.specs.declared.line_kind.LineKind.TheVariants.{Quantum, Demand, Slices, Credits}
-use Rattle.quantum_text.specs.LineKind.{count_of, numbers_of, KeepsOthers}
+use Rattle.quantum_text.specs.LineKind.{count_of, numbers_of, KeepsOtherKinds}
 use Rattle.quantum_text.specs.Block.{line_text, IsLine, IsNoLine}
 use Rattle.quantum_text.specs.Reading.{ReadsKind, ReadsBadKind}
 
@@ -34,7 +34,7 @@ no_line_none Credits users = λ numbers is_line. let spelled = is_line.spelled i
 
 module _ (kind : LineKind) (before now : Option (List ℕ)) (old new : LineView) (out : Report) where
   pub line_read : (later : Report) (line : List ℕ) → ReadsLine before now old new → line ≡ new.line
-      → IsLine kind (length out.rows) line (numbers_of kind later) → KeepsOthers kind out later → ReadsKind old.limit kind before now out later
+      → IsLine kind (length out.rows) line (numbers_of kind later) → KeepsOtherKinds kind out later → ReadsKind old.limit kind before now out later
   line_read later line reads line_is is_line others = record {
     others = others;
     within = is_line.within;

@@ -5,7 +5,7 @@ use Rattle.std.specs.Fmt.{decimal}
 use Rattle.std.proofs.lemmas.Fmt.{decimal_injective}
 use Rattle.std.proofs.lemmas.List.{drop_more, drop_all, take_all, take_more, take_more_set, map_push, length_push}
 use Rattle.std.proofs.lemmas.List.Elements.{All-push, All-get_or, All-nil}
-use Rattle.quantum_text.specs.Block.{AreNumbers}
+use Rattle.quantum_text.specs.Block.{AreDecimals}
 
 -- the words before `rest` are the decimals of i numbers
 pub record Seen (limit i : ℕ) (words rest : List (List ℕ)) : Type 0 where
@@ -16,7 +16,7 @@ pub record Seen (limit i : ℕ) (words rest : List (List ℕ)) : Type 0 where
 
 -- whatever numbers the words are, `rest` has those from i on
 abbrev pub Due : ℕ → ℕ → ℕ → List (List ℕ) → List (List ℕ) → Type 0
-Due limit count i words rest = (numbers : List ℕ) → AreNumbers limit count words numbers → rest ≡ map decimal (drop i numbers)
+Due limit count i words rest = (numbers : List ℕ) → AreDecimals limit count words numbers → rest ≡ map decimal (drop i numbers)
 
 pub seen_none : (limit : ℕ) (words : List (List ℕ)) → Seen limit 0 words words
 seen_none limit words = record { found = []; within = All-nil (λ number. number ≤ limit); long = refl; whole = refl }
@@ -31,7 +31,7 @@ seen_more limit i words rest others number seen next within = record {
       ∙ ap (λ t. t ++ others) (sym (map_push decimal seen.found number));
 }
 
-pub seen_all : (limit count i : ℕ) (words rest : List (List ℕ)) → Seen limit i words rest → rest ≡ [] → i ≡ count → (numbers : List ℕ) × AreNumbers limit count words numbers
+pub seen_all : (limit count i : ℕ) (words rest : List (List ℕ)) → Seen limit i words rest → rest ≡ [] → i ≡ count → (numbers : List ℕ) × AreDecimals limit count words numbers
 seen_all limit count i words rest seen none end = (
   seen.found,
   record {
@@ -41,18 +41,18 @@ seen_all limit count i words rest seen none end = (
   },
 )
 
-due_next : (limit count i : ℕ) (words rest : List (List ℕ)) → Due limit count i words rest → i < count → (numbers : List ℕ) → AreNumbers limit count words numbers
+due_next : (limit count i : ℕ) (words rest : List (List ℕ)) → Due limit count i words rest → i < count → (numbers : List ℕ) → AreDecimals limit count words numbers
     → rest ≡ decimal (get_or numbers i 0) ∷ map decimal (drop (i + 1) numbers)
 due_next limit count i words rest due more numbers are =
     due numbers are ∙ ap (map decimal) (drop_more numbers i 0 (omega (arith, are.many)))
 
-due_within : (limit count i : ℕ) (words : List (List ℕ)) → i < count → (numbers : List ℕ) → AreNumbers limit count words numbers → get_or numbers i 0 ≤ limit
+due_within : (limit count i : ℕ) (words : List (List ℕ)) → i < count → (numbers : List ℕ) → AreDecimals limit count words numbers → get_or numbers i 0 ≤ limit
 due_within limit count i words more numbers are = All-get_or (λ number. number ≤ limit) numbers i 0 (omega (arith, are.many)) are.within
 
 -- where the next word is no decimal within the limit, there are no such numbers
 pub due_nothing : (limit count i : ℕ) (words rest : List (List ℕ)) → Due limit count i words rest → i < count
     → ((number : ℕ) → number ≤ limit → (others : List (List ℕ)) → rest ≢ decimal number ∷ others)
-    → (numbers : List ℕ) → AreNumbers limit count words numbers → ⊥
+    → (numbers : List ℕ) → AreDecimals limit count words numbers → ⊥
 due_nothing limit count i words rest due more nothing numbers are =
     nothing (get_or numbers i 0) (due_within limit count i words more numbers are) (map decimal (drop (i + 1) numbers)) (due_next limit count i words rest due more numbers are)
 
@@ -60,12 +60,12 @@ pub due_more : (limit count i : ℕ) (words rest others : List (List ℕ)) (numb
     → Due limit count (i + 1) words others
 due_more limit count i words rest others number due more next = λ numbers are. let known = due_next limit count i words rest due more numbers are in cc
 
-pub due_end : (limit count i : ℕ) (words rest : List (List ℕ)) → Due limit count i words rest → count ≤ i → (numbers : List ℕ) → AreNumbers limit count words numbers → rest ≡ []
+pub due_end : (limit count i : ℕ) (words rest : List (List ℕ)) → Due limit count i words rest → count ≤ i → (numbers : List ℕ) → AreDecimals limit count words numbers → rest ≡ []
 due_end limit count i words rest due end numbers are = due numbers are ∙ ap (map decimal) (drop_all i numbers (omega (arith, are.many)))
 
 -- the number that was read is the one that is due
 pub due_number : (limit count i : ℕ) (words rest others : List (List ℕ)) (number : ℕ) → limit < 2 ^ 64 → Due limit count i words rest → i < count → rest ≡ decimal number ∷ others → number ≤ limit
-    → (numbers : List ℕ) → AreNumbers limit count words numbers → number ≡ get_or numbers i 0
+    → (numbers : List ℕ) → AreDecimals limit count words numbers → number ≡ get_or numbers i 0
 due_number limit count i words rest others number fits due more next within numbers are =
     let known = due_next limit count i words rest due more numbers are in
     let low = due_within limit count i words more numbers are in

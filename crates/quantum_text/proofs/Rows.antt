@@ -5,7 +5,7 @@ use Rattle.karma_rule.specs.declared.row.Row.{Row}
 use Rattle.demand_book.specs.declared.report.Report.{Report}
 use Rattle.quantum_text.specs.declared.line_kind.LineKind.{LineKind}
 use Rattle.quantum_text.specs.declared.line_kind.LineKind.TheVariants.{Quantum, Demand, Slices, Credits}
-use Rattle.quantum_text.specs.LineKind.{count_of, numbers_of, KeepsOthers}
+use Rattle.quantum_text.specs.LineKind.{count_of, numbers_of, KeepsOtherKinds}
 
 pub length_numbers : (kind : LineKind) (report : Report) → length (numbers_of kind report) ≡ count_of kind (length report.rows)
 length_numbers Quantum report = refl
@@ -13,10 +13,10 @@ length_numbers Demand report = length-map report.rows (λ (row : Row). row.deman
 length_numbers Slices report = length-map report.rows (λ (row : Row). row.given)
 length_numbers Credits report = length-map report.rows (λ (row : Row). row.credits)
 
-pub keeps_all : (kind : LineKind) (report : Report) → KeepsOthers kind report report
+pub keeps_all : (kind : LineKind) (report : Report) → KeepsOtherKinds kind report report
 keeps_all kind report = record { users = refl; others = λ other ne. refl }
 
-pub keeps_on : (kind : LineKind) (a b c : Report) → KeepsOthers kind a b → KeepsOthers kind b c → KeepsOthers kind a c
+pub keeps_on : (kind : LineKind) (a b c : Report) → KeepsOtherKinds kind a b → KeepsOtherKinds kind b c → KeepsOtherKinds kind a c
 keeps_on kind a b c first second = record {
   users = second.users ∙ first.users;
   others = λ other ne. second.others other ne ∙ first.others other ne;
@@ -55,7 +55,7 @@ column_keeps kind Credits report items i row d same here demand given credits ne
 
 pub row_keeps : (kind : LineKind) (report : Report) (items : List Row) (i : ℕ) (row d : Row) → items ≡ report.rows → i < length report.rows
     → (kind ≢ Demand → row.demand ≡ (get_or items i d).demand) → (kind ≢ Slices → row.given ≡ (get_or items i d).given) → (kind ≢ Credits → row.credits ≡ (get_or items i d).credits)
-    → KeepsOthers kind report (with_row report items i row)
+    → KeepsOtherKinds kind report (with_row report items i row)
 row_keeps kind report items i row d same here demand given credits = record {
   users = ap length (rows_after report.rows items i row same) ∙ length-set report.rows i row;
   others = λ other ne. column_keeps kind other report items i row d same here demand given credits ne;

@@ -25,7 +25,7 @@ abbrev pub report_text : Report → List ℕ
 report_text report = block_text report.quantum (numbers_of Demand report) (numbers_of Slices report) (numbers_of Credits report)
 
 -- the words are the decimals of these numbers, so many and none above the limit
-pub record AreNumbers (limit count : ℕ) (words : List (List ℕ)) (numbers : List ℕ) : Type 0 where
+pub record AreDecimals (limit count : ℕ) (words : List (List ℕ)) (numbers : List ℕ) : Type 0 where
   pub spelled : words ≡ map decimal numbers
   pub many : length numbers ≡ count
   pub within : All (λ number. number ≤ limit) numbers

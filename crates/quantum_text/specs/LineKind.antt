@@ -1,5 +1,6 @@
 -- The kinds of lines in a quantum block.
 use Rattle.std.specs.Prelude.{◌≡◌, ◌≢◌, ℕ, ◌-◌, ◌^◌, List, [], ◌∷◌, length, map, codes}
+use Rattle.karma_rule.specs.declared.limits.TheConstants.{MOST_DEMAND}
 use Rattle.demand_book.specs.declared.report.Report.{Report}
 use Rattle.quantum_text.specs.declared.line_kind.LineKind.{LineKind}
 use Rattle.quantum_text.specs.declared.line_kind.LineKind.TheVariants.{Quantum, Demand, Slices, Credits}
@@ -18,7 +19,7 @@ word_of Credits = codes "credits"
 -- the greatest number that may stand on it
 abbrev pub limit_of : LineKind → ℕ
 limit_of Quantum = 2 ^ 32 - 1
-limit_of Demand = 2 ^ 42
+limit_of Demand = MOST_DEMAND
 limit_of Slices = 2 ^ 64 - 1
 limit_of Credits = 2 ^ 64 - 1
 
@@ -37,6 +38,6 @@ numbers_of Slices report = map (λ row. row.given) report.rows
 numbers_of Credits report = map (λ row. row.credits) report.rows
 
 -- nothing changed but the numbers of this kind
-pub record KeepsOthers (kind : LineKind) (old new : Report) : Type 0 where
+pub record KeepsOtherKinds (kind : LineKind) (old new : Report) : Type 0 where
   pub users : length new.rows ≡ length old.rows
   pub others : (other : LineKind) → other ≢ kind → numbers_of other new ≡ numbers_of other old

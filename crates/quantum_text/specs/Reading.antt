@@ -10,7 +10,7 @@ use Rattle.quantum_text.specs.declared.line_kind.LineKind.{LineKind}
 use Rattle.quantum_text.specs.declared.line_kind.LineKind.TheVariants.{Quantum}
 use Rattle.quantum_text.specs.declared.read.ReportTextEnd.{ReportTextEnd}
 use Rattle.quantum_text.specs.declared.read.ReportTextEnd.TheVariants.{End, BadLine, ReadFault}
-use Rattle.quantum_text.specs.LineKind.{block_kinds, limit_of, numbers_of, KeepsOthers}
+use Rattle.quantum_text.specs.LineKind.{block_kinds, limit_of, numbers_of, KeepsOtherKinds}
 use Rattle.quantum_text.specs.Block.{line_text, report_text, IsLine, IsNoLine, IsBlock}
 
 -- The bytes begin with lines of these kinds, in this order, that have the report's numbers, and none is longer than the limit.
@@ -29,6 +29,11 @@ pub record IsBadNext (limit users : ℕ) (kind : LineKind) (bytes : List ℕ) : 
 pub record IsPast (limit : ℕ) (bytes : List ℕ) (now : Option (List ℕ)) : Type 0 where
   pub taken : length (line_of bytes) ≤ limit → now ≡ Some (after_line bytes)
   pub kept : limit < length (line_of bytes) → now ≡ Some bytes
+
+-- These bytes have no line end, and fit the buffer: they are no line yet, and not too long for one.
+pub record IsPartLine (limit : ℕ) (bytes : List ℕ) : Type 0 where
+  pub part : line_of bytes ≡ bytes
+  pub fits : length bytes ≤ limit
 
 -- The lines of these kinds were read into the report, and nothing changed of the others.
 pub record ReadsLines (limit : ℕ) (kinds others : List LineKind) (before now : Option (List ℕ)) (old new : Report) : Type 0 where
@@ -69,7 +74,7 @@ ReadsBlock limit number before now old new (Err ReadFault) = StopsAt limit befor
 
 -- the next line was read as one of this kind
 pub record ReadsKind (limit : ℕ) (kind : LineKind) (before now : Option (List ℕ)) (old new : Report) : Type 0 where
-  pub others : KeepsOthers kind old new
+  pub others : KeepsOtherKinds kind old new
   pub within : All (λ number. number ≤ limit_of kind) (numbers_of kind new)
   pub told : (bytes : List ℕ) → before ≡ Some bytes → (rest : List ℕ) × (now ≡ Some rest) × BeginsWith limit new (kind ∷ []) bytes rest
 
@@ -95,10 +100,10 @@ ReadsAgain report more now new (Err (BadLine line)) = ⊥
 ReadsAgain report more now new (Err ReadFault) = Unit {0}
 
 -- the lines of a report fit a buffer of this limit
-abbrev pub Fits : ℕ → Report → Type 0
-Fits limit report = (kind : LineKind) → length (line_text kind (numbers_of kind report)) ≤ limit
+abbrev pub LinesFit : ℕ → Report → Type 0
+LinesFit limit report = (kind : LineKind) → length (line_text kind (numbers_of kind report)) ≤ limit
 
 -- One spelling: where these bytes begin with the text of a report whose lines are a block, of as many rows and within the limit, that report is read.
 abbrev pub IsReadAgain : ℕ → Option (List ℕ) → Option (List ℕ) → Report → Report → Result (Unit {0}) ReportTextEnd → Type 0
 IsReadAgain limit before now old new result = (report : Report) (more : List ℕ) → before ≡ Some (report_text report ++ more)
-    → IsBlock report → length report.rows ≡ length old.rows → Fits limit report → ReadsAgain report more now new result
+    → IsBlock report → length report.rows ≡ length old.rows → LinesFit limit report → ReadsAgain report more now new result

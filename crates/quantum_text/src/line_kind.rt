@@ -1,3 +1,5 @@
+//! The four kinds of lines in a block, with the numbers that a report has for each.
+
 ghost use Rattle.std.specs.Prelude.{◌≡◌, ◌<◌, ◌≤◌, length, slice_index, slice_set};
 
 use demand_book::Report;
@@ -17,7 +19,7 @@ pub enum LineKind {
 }
 
 impl LineKind {
-    ghost use Rattle.quantum_text.specs.LineKind.{word_of, limit_of, count_of, numbers_of, KeepsOthers};
+    ghost use Rattle.quantum_text.specs.LineKind.{word_of, limit_of, count_of, numbers_of, KeepsOtherKinds};
 
     /// The lines of a block, in their order.
     pub const ALL: [LineKind; 4] = [
@@ -74,12 +76,13 @@ impl LineKind {
             LineKind::Credits => report.rows.items()[index].credits,
         }
     }
-    // Sets the number at the place `index` of it.
+
+    /// Sets the number at the place `index` of it.
     pub(crate) fn set_number(self, report: &mut Report, index: usize, number: u64)
         requires place { index < length (numbers_of self report.old) }
         requires within { number ≤ limit_of self }
         ensures numbers { numbers_of self report.new ≡ slice_set (numbers_of self report.old) index number }
-        ensures others { KeepsOthers self report.old report.new }
+        ensures others { KeepsOtherKinds self report.old report.new }
     {
         match self {
             LineKind::Quantum => report.quantum = number as u32,

@@ -1,4 +1,6 @@
-ghost use Rattle.std.specs.Prelude.{◌≡◌, ◌++◌, OnOk, OnErr};
+//! A report as the text of its block.
+
+ghost use Rattle.std.specs.Prelude.{◌++◌, OnOk, OnErr};
 ghost use Rattle.far_io.specs.Faults.{HasCause};
 ghost use Rattle.far_io.specs.Adds.{Adds, AddsPrefix};
 ghost use Rattle.far_io.specs.Sends.{Sends, spaced};
@@ -15,15 +17,17 @@ const NUMBER_ROOM: usize = 21;
 /// The most bytes of a line's word.
 const WORD_ROOM: usize = 7;
 
-// Puts a space and the decimal of each number of the line.
+/// Puts a space and the decimal of each number of the line.
 fn put_numbers<O: Sink>(
     kind: LineKind,
     report: &Report,
     sink: &mut O,
     piece: &mut Piece,
 ) -> Result<(), WriteFault>
-    ensures sends { OnOk result (Sends O.took sink.old sink.new piece.old piece.new (spaced (numbers_of kind report.now))) }
-    ensures prefix { OnErr result (AddsPrefix O.took sink.old sink.new (piece.old ++ spaced (numbers_of kind report.now))) }
+    ensures sends { OnOk result (Sends O.took sink.old sink.new piece.old piece.new
+        (spaced (numbers_of kind report.now))) }
+    ensures prefix { OnErr result (AddsPrefix O.took sink.old sink.new
+        (piece.old ++ spaced (numbers_of kind report.now))) }
     ensures cause { HasCause (O.faults sink.old) (O.faults sink.new) result }
 {
     for index in 0..kind.count(report) {
@@ -42,8 +46,10 @@ pub fn put_block_line<O: Sink>(
     sink: &mut O,
     piece: &mut Piece,
 ) -> Result<(), WriteFault>
-    ensures sends { OnOk result (Sends O.took sink.old sink.new piece.old piece.new (ended_line kind (numbers_of kind report.now))) }
-    ensures prefix { OnErr result (AddsPrefix O.took sink.old sink.new (piece.old ++ ended_line kind (numbers_of kind report.now))) }
+    ensures sends { OnOk result (Sends O.took sink.old sink.new piece.old piece.new
+        (ended_line kind (numbers_of kind report.now))) }
+    ensures prefix { OnErr result (AddsPrefix O.took sink.old sink.new
+        (piece.old ++ ended_line kind (numbers_of kind report.now))) }
     ensures cause { HasCause (O.faults sink.old) (O.faults sink.new) result }
 {
     make_room(sink, piece, WORD_ROOM)?;

@@ -1,4 +1,5 @@
-use Rattle.std.proofs.Common.{◌≡◌, ◌-◌, ◌^◌, ◌<◌, ◌≤◌, sum_by}
+use Rattle.std.proofs.Common.{◌≡◌, ◌-◌, ◌<◌, ◌≤◌, sum_by}
+use Rattle.karma_rule.specs.declared.limits.TheConstants.{CREDITS_TOP}
 use Rattle.karma_batch.specs.Levels.{over}
 use Rattle.karma_batch.proofs.level.search.Given as goal
 
@@ -6,7 +7,7 @@ abbrev pub invariant-loop-low : goal.invariant-loop-low
 invariant-loop-low l = record {
   in_range : l.low ≤ l.high;
   some : 1 ≤ l.low;
-  top : l.high ≤ 2 ^ 63;
+  top : l.high ≤ CREDITS_TOP;
   fits : l.moved ≤ l.count;
   moved : l.moved ≡ sum_by (over l.high) l.ramps;
   tight : l.count < sum_by (over (l.low - 1)) l.ramps;

@@ -1,12 +1,12 @@
 use Rattle.std.proofs.Common.{◌-◌, ◌≤◌, sum_by, get_or, ap, ◌∙◌, arith}
-use Rattle.karma_batch.specs.Levels.{room_of, above, amounts, all_moved}
+use Rattle.karma_batch.specs.Levels.{movable_of, above, amounts, all_moved}
 use Rattle.karma_batch.proofs.LevelRows.{key_bound}
 use Rattle.karma_batch.proofs.SpreadInOrder.{spread_is}
 use Rattle.karma_batch.proofs.spread.spread_count.Goals as goal
 
 pub returns : goal.returns
 returns c =
-    let enough : c.args.count ≤ sum_by (room_of c.args.side c.args.floor) c.args.rows.now = omega (arith, c.requires.count, c.requires.total) in
+    let enough : c.args.count ≤ sum_by (movable_of c.args.side c.args.floor) c.args.rows.now = omega (arith, c.requires.count, c.requires.total) in
     let fits : sum_by (above c.args.side c.args.floor c.level_for-found.result.level) c.args.rows.now ≤ c.args.count = omega (arith, c.level_for-found.ensures.moved, c.level_for-found.ensures.fits) in
     record {
       moved = amounts c.args.side c.args.floor c.level_for-found.result.level (c.args.count - sum_by (above c.args.side c.args.floor c.level_for-found.result.level) c.args.rows.now) c.args.rows.now;

@@ -1,4 +1,5 @@
-use Rattle.std.proofs.Common.{◌≡◌, ◌<◌, ◌-◌, ◌^◌, length, get_or, arith}
+use Rattle.std.proofs.Common.{◌≡◌, ◌<◌, length, get_or, arith}
+use Rattle.karma_rule.specs.declared.limits.TheConstants.{CREDITS_BOUND}
 use Rattle.karma_rule.specs.Karma.{opened}
 use Rattle.karma_rule.specs.OpenRow.{user_of, IsOpenRow}
 use Rattle.karma_rule.proofs.Walks.{rest_more, rest_set, map_step, all_step}
@@ -10,7 +11,7 @@ overflow_add-row c =
     let l : c.loop-row.row-index < length c.loop-row.rows = omega arith in
     let m : c.loop-row.row-index < length c.args.rows.now = omega arith in
     let here : get_or c.loop-row.rows c.loop-row.row-index no_row ≡ get_or c.args.rows.now c.loop-row.row-index no_row = (rest_more c.loop-row.rows c.args.rows.now c.loop-row.row-index no_row l m c.loop-row.invariant.rest).0 in
-    let bound : (get_or c.loop-row.rows c.loop-row.row-index no_row).credits < 2 ^ 62 - 2 ^ 32 = rw here (c.requires.credits c.loop-row.row-index no_row m) in
+    let bound : (get_or c.loop-row.rows c.loop-row.row-index no_row).credits < CREDITS_BOUND = rw here (c.requires.credits c.loop-row.row-index no_row m) in
     omega (arith, c.requires.fair)
 
 pub loop-row-preserved : goal.loop-row-preserved

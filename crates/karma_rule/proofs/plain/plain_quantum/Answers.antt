@@ -17,30 +17,13 @@ loans-preserved c =
     }
 
 -- the last call made no loan, so that the quantum is closed
-pub returns-clause-rows : goal.returns-clause-rows
-returns-clause-rows c =
+pub returns : goal.returns
+returns c =
     let before : Quantum = quantum_of c.args.share.floor c.loans.rows c.loans.shared in
     let fixed : next before ≡ before = sym c.make_loan.ensures.next ∙ c.loans-test.ensures.ended in
     let closed : quantum_of c.args.share.floor c.make_loan.new.rows c.make_loan.new.shared ≡ closing (opening c.args.share c.args.rows.now) =
     c.loans-test.ensures.ended ∙ sym (closing-fixed before fixed) ∙ c.loans.invariant.closes in
-    c.close_rows.ensures
+    karma_keeps _ _ c.args.share c.requires.ready.floor
+    (c.close_rows.ensures
     ∙ sym (map-map row_of (user_of c.args.share.floor) c.make_loan.new.rows)
-    ∙ ap (λ q. map row_of q.users) closed
-
-pub returns-clause-demands : goal.returns-clause-demands
-returns-clause-demands c = (karma_keeps _ _ c.args.share c.requires.floor (returns-clause-rows c)).demands
-
-pub returns-clause-wanted : goal.returns-clause-wanted
-returns-clause-wanted c = (karma_keeps _ _ c.args.share c.requires.floor (returns-clause-rows c)).wanted
-
-pub returns-clause-paid : goal.returns-clause-paid
-returns-clause-paid c = (karma_keeps _ _ c.args.share c.requires.floor (returns-clause-rows c)).paid
-
-pub returns-clause-within : goal.returns-clause-within
-returns-clause-within c = (karma_keeps _ _ c.args.share c.requires.floor (returns-clause-rows c)).within
-
-pub returns-clause-used : goal.returns-clause-used
-returns-clause-used c = (karma_keeps _ _ c.args.share c.requires.floor (returns-clause-rows c)).used
-
-pub returns-clause-levelled : goal.returns-clause-levelled
-returns-clause-levelled c = (karma_keeps _ _ c.args.share c.requires.floor (returns-clause-rows c)).levelled
+    ∙ ap (λ q. map row_of q.users) closed)

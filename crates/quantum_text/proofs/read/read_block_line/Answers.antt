@@ -1,5 +1,4 @@
-use Rattle.std.proofs.Common.{◌∙◌, ap, refl}
-use Rattle.far_io.specs.Faults.{one_more}
+use Rattle.std.proofs.Common.{refl}
 use Rattle.quantum_text.proofs.NextLine.{line_outside, line_missing, line_too_long}
 use Rattle.quantum_text.proofs.read.read_block_line.Goals as goal
 
@@ -10,9 +9,10 @@ returns-then-not-parse_block_line-clause-read g c = λ agrees.
 pub returns-in_default-clause-read : goal.returns-in_default-clause-read
 returns-in_default-clause-read g c = λ agrees.
     let got = rw c.in-Err-End.field-0-is at c.in-Err-End.ensures in
-    line_missing c.args.kind _ _ _ _ c.args.out.now _ got.read (got.end refl agrees) c.in_default.not-Quantum (c.saturating_add.ensures ∙ ap one_more c.number-in_default.ensures)
+    rw c.next_is_bad.ensures
+    (line_missing c.args.kind _ _ _ _ c.args.out.now _ got.read (got.end refl agrees) c.in_default.not-Quantum refl)
 
 pub returns-in-Err-TooLong-clause-read : goal.returns-in-Err-TooLong-clause-read
 returns-in-Err-TooLong-clause-read g c = λ agrees.
     let read = rw c.in-Err-TooLong.field-0-is at c.in-Err-TooLong.ensures.read in
-    line_too_long c.args.kind _ _ _ _ c.args.out.now _ _ read (c.saturating_add-in-Err-TooLong.ensures ∙ ap one_more c.number-in-Err-TooLong.ensures)
+    rw c.next_is_bad-in-Err-TooLong.ensures (line_too_long c.args.kind _ _ _ _ c.args.out.now _ _ read refl)

@@ -1,4 +1,4 @@
-use Rattle.std.proofs.Common.{◌≡◌, refl, subst, sym}
+use Rattle.std.proofs.Common.{refl}
 use Rattle.demand_book.specs.declared.as_object.BookAsk.TheVariants.{Report, Share, Tick}
 use Rattle.demand_book.specs.declared.as_object.BookTell.TheVariants.{Report as Reported, Share as Shared, Tick as Ticked}
 use Rattle.demand_book.proofs.Grows.{stands_more, report_leaves, tick_leaves, tick_answers}
