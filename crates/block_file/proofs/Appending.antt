@@ -1,9 +1,10 @@
 -- How the steps of an append fit together.
-use Rattle.std.proofs.Common.{◌≡◌, ◌≢◌, ℕ, ◌+◌, ◌-◌, ◌*◌, ◌<◌, List, ◌++◌, length, take, drop, get_or, min, sym, ap, ◌∙◌, inl, inr, arith}
+use Rattle.std.proofs.Common.{◌≡◌, ◌≢◌, ℕ, ◌+◌, ◌-◌, ◌*◌, ◌<◌, ◌≤◌, List, ◌++◌, length, take, drop, get_or, min, sym, ap, ◌∙◌, inl, inr, arith}
 use Rattle.std.specs.Prelude.{All}
 use Rattle.std.specs.Int.{div_ceil}
 use Rattle.std.proofs.lemmas.Bool.{cases_lt}
-use Rattle.std.proofs.lemmas.List.{get_or_append_left, get_or-append-add, length-append, take_all, append_assoc, take-append-drop, length-drop}
+use Rattle.std.proofs.lemmas.List.{get_or_append_left, get_or-append-add, length-append, take_all, append_assoc, take-append-drop, length-drop, length-take}
+use Rattle.block_file.specs.Files.{new_blocks}
 use Rattle.block_file.proofs.Pieces.{ceil_rest}
 
 -- a test passed by every block is passed by those at the front, and by those at the back
@@ -18,10 +19,15 @@ All-back q xs ys zs parts apart = λ k d inside same.
     (same ∙ sym (ap (λ l. get_or l (length xs + k) d) parts ∙ get_or-append-add xs ys k d))
 
 -- the bytes that the last block has no room for need just the new blocks
-pub left_need : (count used more filled size : ℕ) → 0 < size → count ≡ div_ceil used size → filled ≡ min more (count * size - used) → div_ceil (more - filled) size ≡ div_ceil (used + more) size - div_ceil used size
-left_need count used more filled size pos count_is filled_is =
-    let left : more - filled ≡ more - (count * size - used) = omega arith in
-    ap (λ r. div_ceil r size) left ∙ ceil_rest count used more size pos count_is
+pub left_need : (size used filled : ℕ) (blocks bytes : List ℕ) → 0 < size → length blocks ≡ div_ceil used size → filled ≡ min (length bytes) (length blocks * size - used) → div_ceil (length (take (length bytes - filled) (drop filled bytes))) size ≡ new_blocks size used (length bytes)
+left_need size used filled blocks bytes pos count filled_is =
+    let left : length (take (length bytes - filled) (drop filled bytes)) ≡ length bytes - (length blocks * size - used) = omega (arith, length-take (length bytes - filled) (drop filled bytes), length-drop filled bytes) in
+    ap (λ r. div_ceil r size) left ∙ ceil_rest (length blocks) used (length bytes) size pos count
+
+-- where bytes are left for new blocks, the blocks that are there are full
+pub filled_whole : (count size filled : ℕ) (old bytes : List ℕ) → length old ≤ count * size → filled ≡ min (length bytes) (count * size - length old) → 0 < length (take (length bytes - filled) (drop filled bytes)) → length (old ++ take filled bytes) ≡ count * size
+filled_whole count size filled old bytes above filled_is some =
+    omega (arith, length-append old (take filled bytes), length-take filled bytes, length-take (length bytes - filled) (drop filled bytes), length-drop filled bytes)
 
 -- what is left after a front
 pub take_rest_of : (filled : ℕ) (bytes : List ℕ) → take (length bytes - filled) (drop filled bytes) ≡ drop filled bytes

@@ -3,6 +3,7 @@ use Rattle.std.specs.Prelude.{◌≡◌, ◌≢◌, ℕ, ◌+◌, ◌-◌, ◌*�
 use Rattle.std.specs.Int.{div_ceil}
 use Rattle.std.specs.Ordering.{nat_cmp}
 use Rattle.std.specs.FinMap.{find}
+use Rattle.slice_seq.specs.Needs.{append_need}
 use Rattle.block_home.specs.Homes.{HomeView}
 
 -- how many bytes a file has, and its blocks in their order
@@ -29,6 +30,10 @@ pub record IsFile (home : HomeView) (file : FileView) (bytes : List ℕ) : Type 
 abbrev pub IsSound : HomeView → FileView → Type 0
 IsSound home file = (bytes : List ℕ) × IsFile home file bytes
 
--- how many blocks more a file of so many bytes needs for so many more
-abbrev pub need_of : ℕ → ℕ → ℕ → ℕ
-need_of size length more = div_ceil (length + more) size - div_ceil length size
+-- how many blocks more a file of so many bytes has with so many more
+abbrev pub new_blocks : (size old more : ℕ) → ℕ
+new_blocks size old more = div_ceil (old + more) size - div_ceil old size
+
+-- how many slices an append of so many bytes to a file needs in its home
+abbrev pub need_of : HomeView → FileView → (more : ℕ) → ℕ
+need_of home file more = append_need home.size home.purse file.blocks file.length more

@@ -4,11 +4,22 @@ ghost use Rattle.std.specs.Prelude.{◌≡◌, ◌+◌, ◌-◌, ◌*◌, ◌^�
 ghost use Rattle.std.specs.Int.{div_ceil};
 ghost use Rattle.std.specs.Ordering.{nat_cmp};
 ghost use Rattle.std.specs.FinMap.{find};
-ghost use Rattle.block_home.specs.Homes.{HomeView, room_of};
-ghost use Rattle.block_file.specs.Files.{HoldsBytes};
-ghost use Rattle.block_file.specs.Growth.{AddsBlocks, KeepsOthers, without_blocks};
+ghost use Rattle.slice_seq.specs.Needs.{is_last_parked};
+ghost use Rattle.block_home.specs.Homes.{HomeView, IsAlike, room_of};
+ghost use Rattle.block_file.specs.Files.{HoldsBytes, new_blocks};
+ghost use Rattle.block_file.specs.Growth.{AddsBlocks, Grows, KeepsOthers, without_blocks};
 
 use block_home::{Home, HomeEnd};
+
+/// Whether the last block is in no slice. No block is parked, until blocks can lie elsewhere.
+pub(crate) fn ends_parked(blocks: &[u64], home: &Home) -> bool
+    ensures { result ≡ is_last_parked home.now.purse blocks.now }
+{
+    match blocks.last() {
+        Some(block) => home.place(*block).is_none(),
+        None => true,
+    }
+}
 
 /// Writes into the last block what it has room for, and says how much that is. The blocks hold `used` bytes before.
 pub(crate) fn fill_last(blocks: &[u64], home: &mut Home, used: u64, bytes: &[u8]) -> usize
@@ -19,6 +30,8 @@ pub(crate) fn fill_last(blocks: &[u64], home: &mut Home, used: u64, bytes: &[u8]
     ensures rest { home.new ≡ record home.old { blocks = home.new.blocks } }
     ensures numbers { (block : ℕ) → is_some (find nat_cmp block home.new.blocks) ≡ is_some (find nat_cmp block home.old.blocks) }
     ensures others { KeepsOthers home.old home.new blocks.now }
+    // What `size` says of each home.
+    ensures some { 1 ≤ home.old.size }
 {
     let size = u64::from(home.size());
     let at = used % size;
@@ -49,6 +62,22 @@ pub(crate) fn add_blocks(blocks: &mut Vec<u64>, home: &mut Home, bytes: &[u8])
         blocks.push_reserved(block);
         done = end;
     }
+}
+
+/// Puts bytes after the `used` ones that the blocks hold: the last block is filled first, and then come new blocks, as few
+/// as can.
+pub(crate) fn extend_blocks(blocks: &mut Vec<u64>, home: &mut Home, used: u64, bytes: &[u8])
+    requires held { (old : List ℕ) × (used ≡ length old) × HoldsBytes home.old blocks.old.items old }
+    requires room { new_blocks home.old.size used (length bytes.now) ≤ room_of home.old }
+    requires space { vec_len blocks.old + new_blocks home.old.size used (length bytes.now) ≤ vec_capacity blocks.old }
+    ensures bytes { (old : List ℕ) → used ≡ length old → HoldsBytes home.old blocks.old.items old
+        → HoldsBytes home.new blocks.new.items (old ++ bytes.now) }
+    ensures grows { (added : List ℕ) × (blocks.new.items ≡ blocks.old.items ++ added) × Grows home.old added home.new }
+    ensures others { KeepsOthers home.old home.new blocks.new.items }
+    ensures alike { IsAlike home.old home.new }
+{
+    let filled = fill_last(blocks, home, used, bytes);
+    add_blocks(blocks, home, &bytes[filled..]);
 }
 
 /// Fills `out` with the bytes from place `from` on.

@@ -2,10 +2,10 @@
 #![tactic(auto)]
 
 ghost use Rattle.std.specs.Prelude.{◌≡◌, ◌+◌, ◌-◌, ◌*◌, ◌^◌, ◌<◌, ◌≤◌, ◌++◌, [], length, take, drop, slice_get, vec_len, vec_capacity, IsOk, IfOk, OnOk, OnErr, IsOkUnless, List, ℕ, Err, Ok};
-ghost use Rattle.std.specs.Int.{div_ceil};
-ghost use Rattle.block_home.specs.Homes.{HomeView, IsAlike, granted_of, used_of, room_of};
+ghost use Rattle.far_words.specs.declared.request.TheConstants.{MOST_IN_FILE};
+ghost use Rattle.block_home.specs.Homes.{HomeView, IsAlike, room_of};
 
-use crate::blocks::{add_blocks, cut_blocks, fill_last, read_blocks};
+use crate::blocks::{cut_blocks, ends_parked, extend_blocks, read_blocks};
 use block_home::{Home, HomeEnd};
 use far_words::Blob;
 use std::alloc::Global;
@@ -61,11 +61,28 @@ impl FileBody {
         self.blocks.get(index as usize).copied()
     }
 
+    /// How many slices an append of so many bytes needs in the home, which the home has to prepare before it: one for each
+    /// new block, and one for the last block where bytes go into it and it is in no slice.
+    pub fn need(&self, home: &Home, more: u64) -> u64
+        requires limit { self.now.length + more ≤ MOST_IN_FILE }
+        ensures { result ≡ need_of home.now self.now more }
+    {
+        let size = u64::from(home.size());
+        let new = (self.length + more).div_ceil(size) - self.length.div_ceil(size);
+        if more > 0 && self.length % size > 0 && ends_parked(&self.blocks, home) {
+            new + 1
+        } else {
+            new
+        }
+    }
+
     /// Puts bytes at the end of the file, and gives its new length. The last block is filled first, and then come new
-    /// blocks, as few as can. At an `Err` nothing has changed.
+    /// blocks, as few as can. The home has room for them: see [`need`](FileBody::need) and [`Home::prepare`]. At an `Err`,
+    /// which is want of memory, nothing has changed.
     pub fn append(&mut self, home: &mut Home, bytes: &[u8]) -> Result<u64, HomeEnd>
         requires sound { IsSound home.old self.old }
-        requires limit { self.old.length + length bytes.now ≤ 2 ^ 40 }
+        requires limit { self.old.length + length bytes.now ≤ MOST_IN_FILE }
+        requires prepared { need_of home.old self.old (length bytes.now) ≤ room_of home.old }
 
         ensures bytes { OnOk result ((old : List ℕ) → IsFile home.old self.old old → IsFile home.new self.new (old ++ bytes.now)) }
         ensures length { IfOk result (λ length. length ≡ self.new.length) }
@@ -75,25 +92,20 @@ impl FileBody {
         ensures others { KeepsOthers home.old home.new self.new.blocks }
         ensures alike { IsAlike home.old home.new }
 
-        // Where the room suffices, want of memory is the one refusal, and none comes where no new block is needed.
-        ensures fits { need_of home.old.size self.old.length (length bytes.now) ≡ 0 → IsOk result }
-        ensures exhausted { let need = need_of home.old.size self.old.length (length bytes.now) in
-            room_of home.old < need → result ≡ Err (HomeEnd.Exhausted need (used_of home.old) (granted_of home.old)) }
-        ensures room { need_of home.old.size self.old.length (length bytes.now) ≤ room_of home.old → IsOkUnless result HomeEnd.NoMemory }
+        // Want of memory is the one refusal, and none comes where no slice is needed.
+        ensures cause { IsOkUnless result HomeEnd.NoMemory }
+        ensures fits { need_of home.old self.old (length bytes.now) ≡ 0 → IsOk result }
         ensures home_stays { OnErr result (home.new ≡ home.old) }
         ensures file_stays { OnErr result (self.new ≡ self.old) }
     {
-        let size = u64::from(home.size());
-        let length = self.length + bytes.len() as u64;
-        let need = length.div_ceil(size) - self.length.div_ceil(size);
-        home.prepare(need)?;
+        let more = bytes.len() as u64;
+        let need = self.need(home, more);
         if self.blocks.reserve(need as usize).is_err() {
             return Err(HomeEnd::NoMemory);
         }
-        let filled = fill_last(&self.blocks, home, self.length, bytes);
-        add_blocks(&mut self.blocks, home, &bytes[filled..]);
-        self.length = length;
-        Ok(length)
+        extend_blocks(&mut self.blocks, home, self.length, bytes);
+        self.length += more;
+        Ok(self.length)
     }
 
     /// Reads `len` bytes from place `from` on, or as many as there are, in place of what `out` had. After an `Err`

@@ -1,3 +1,4 @@
+//! A file that grows over the blocks of a small home.
 ghost use Rattle.std.specs.Prelude.{◌≡◌, IfOk};
 ghost use Rattle.block_file.specs.Files.{IsSound};
 
@@ -31,6 +32,7 @@ fn new_file(alloc: Global, _home: &Home) -> FileBody
     FileBody::new(alloc)
 }
 
+/// An append as its callers make it: the home is asked for what it needs first.
 fn append(
     rt: &impl Abort,
     file: &mut FileBody,
@@ -41,6 +43,8 @@ fn append(
     ensures { IsSound home.new file.new }
 {
     assert!(rt; file.length() < 1000 && bytes.len() < 1000);
+    let need = file.need(home, bytes.len() as u64);
+    home.prepare(need)?;
     file.append(home, bytes)
 }
 

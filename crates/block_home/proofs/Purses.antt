@@ -1,12 +1,21 @@
 -- A table of held slices, seen as a purse.
-use Rattle.std.proofs.Common.{◌≡◌, ℕ, zero, suc, ◌+◌, ◌<◌, Bool, true, false, not, cond, List, [], ◌∷◌, length, count_by, get_or, refl, ap, ◌∙◌, arith, Some, None}
+use Rattle.std.proofs.Common.{◌≡◌, ℕ, zero, suc, ◌+◌, ◌<◌, Bool, true, false, not, ◌||◌, is_some, cond, List, [], ◌∷◌, length, count_by, get_or, refl, ap, ◌∙◌, arith, Some, None}
 use Rattle.std.specs.declared.option.Option.{Option}
 use Rattle.std.specs.Option.{option_map_or}
 use Rattle.std.proofs.lemmas.List.Sums.{length-filter}
 use Rattle.block_home.proofs.Tables.{count_by-entries}
 use Rattle.block_home.specs.Tables.{entries_from, entries_of}
-use Rattle.slice_seq.specs.Purses.{Held, Purse, is_used, open_slices, holds}
+use Rattle.slice_seq.specs.Purses.{Held, Purse, is_used, open_slices, holds, has_block}
 use Rattle.block_home.specs.Purses.{lowest, place_of}
+
+-- a block is in a slice where it has a place
+pub has_block-place : (purse : Purse) (block : ℕ) → has_block purse block ≡ is_some (place_of purse block)
+has_block-place [] block = refl
+has_block-place (e ∷ purse) block = by (holds block e.1) (has_block-place purse block)
+  where
+    by : (b : Bool) → has_block purse block ≡ is_some (place_of purse block) → (b || has_block purse block) ≡ is_some (cond b (Some (e.0, e.1.number)) (place_of purse block))
+    by true rest = refl
+    by false rest = rest
 
 -- whether a place of the table has an open slice, or one with this block
 abbrev pub open_at : Option Held → Bool

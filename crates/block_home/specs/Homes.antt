@@ -4,7 +4,7 @@ use Rattle.std.specs.Option.{unwrap_or}
 use Rattle.std.specs.Ordering.{nat_cmp}
 use Rattle.std.specs.FinMap.{find, put}
 use Rattle.slice_seq.specs.Purses.{Purse, used, open_slices}
-use Rattle.block_home.specs.Noted.{MovesView, no_moves}
+use Rattle.block_home.specs.Noted.{NotedView, no_moves}
 
 pub record HomeView : Type 0 where
   -- whose home it is, how many bytes a block has at most, and how many slices it has room for
@@ -16,7 +16,7 @@ pub record HomeView : Type 0 where
   pub purse : Purse
   -- how many slices it keeps that were granted out of order. They are never used
   pub strays : ℕ
-  pub moves : MovesView
+  pub moves : NotedView
 
 -- whether a number names a block, and the bytes that it names
 abbrev pub HasBlock : HomeView → ℕ → Type 0

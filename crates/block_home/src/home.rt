@@ -1,5 +1,5 @@
 //! The home.
-ghost use Rattle.std.specs.Prelude.{◌≡◌, ℕ, ◌==◌, ◌↔◌, if◌then◌else◌, IfSome, ◌+◌, ◌≤◌, ◌<◌, ◌⊎◌, [], length, take, drop, IsTrue, IsSome, IsOk, IfOk, Some, None, false, replicate, Err};
+ghost use Rattle.std.specs.Prelude.{◌≡◌, ℕ, ◌==◌, ◌↔◌, if◌then◌else◌, IfSome, ◌+◌, ◌≤◌, ◌<◌, ◌⊎◌, [], length, take, drop, IsTrue, IsSome, IsOk, IfOk, OnOk, Some, None, false, replicate, Err};
 ghost use Rattle.std.specs.Ordering.{nat_cmp};
 ghost use Rattle.std.specs.FinMap.{find, put};
 ghost use Rattle.std.specs.List.Sorted.{IsStrictlySortedBy};
@@ -88,10 +88,11 @@ impl Home {
         })
     }
 
-    /// Makes sure that so many blocks can be placed. Exhausted comes exactly where more are needed than held slices are
+    /// Makes sure that so many blocks can be placed: after an Ok there is room for them. Exhausted comes exactly where more are needed than held slices are
     /// unused, and with the purse's own numbers. No memory is taken, as long as each block lies in a slice.
     pub fn prepare(&mut self, need: u64) -> Result<(), HomeEnd>
         ensures ok { need ≤ room_of self.old → IsOk result }
+        ensures ready { OnOk result (need ≤ room_of self.new) }
         ensures exhausted { room_of self.old < need → result ≡ Err (HomeEnd.Exhausted need (used_of self.old) (granted_of self.old)) }
         ensures room { granted_of self.old ≡ used_of self.old + room_of self.old }
         ensures same { self.new ≡ self.old }

@@ -1,6 +1,6 @@
 //! What a home notes of its moves.
 ghost use Rattle.std.specs.Prelude.{◌≡◌, IfOk};
-ghost use Rattle.block_home.specs.Noted.{MovesView, no_moves, with_freed, with_placed};
+ghost use Rattle.block_home.specs.Noted.{NotedView, no_moves, with_freed, with_placed};
 
 use std::alloc::{AllocError, Global};
 use std::marker::Model;
@@ -25,9 +25,9 @@ pub struct HomeMoves {
 
 impl Model for HomeMoves {
     ghost use Rattle.std.specs.Prelude.{◌≤◌, vec_len, vec_capacity};
-    ghost use Rattle.block_home.specs.Noted.{MovesView};
+    ghost use Rattle.block_home.specs.Noted.{NotedView};
 
-    ghost Value = { MovesView };
+    ghost Value = { NotedView };
 
     ghost view = { λ m. record { most = m.most; freed = m.freed.items; placed = m.placed.items } };
 

@@ -1,3 +1,4 @@
+//! Blocks of a home of a few slices.
 ghost use Rattle.std.specs.Prelude.{◌≡◌, ◌≤◌, IfOk};
 ghost use Rattle.slice_seq.specs.declared.TheConstants.{WORN};
 

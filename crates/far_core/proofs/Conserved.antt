@@ -9,12 +9,12 @@ use Rattle.std.proofs.lemmas.List.Elements.{All-get_or, All-set}
 use Rattle.karma_rule.specs.declared.shape.Shape.{Shape}
 use Rattle.slice_seq.specs.Purses.{Held}
 use Rattle.far_history.specs.Entries.{Event, Ask, Grant, Entry}
-use Rattle.far_history.specs.Histories.{Past, past_of, first_past, named_for, fits, is_new, is_in_order, InOrder}
-use Rattle.far_history.specs.Legal.{MayFollow, IsLegal}
+use Rattle.far_history.specs.Histories.{Past, past_of, first_past, named_for, fits, is_new, is_in_order, InOrder, count_in}
+use Rattle.far_history.specs.Legal.{MayFollow, IsLegalHistory}
 use Rattle.far_history.proofs.Grows.{past_of-push, InOrder-push, last_follows}
-use Rattle.far_history.proofs.Slices.{count_brought, count_of-cons, find-uncounted, count_of-after, rising-past_of}
+use Rattle.far_history.proofs.Slices.{count_brought, count_in-cons, find-uncounted, count_in-after, rising-past_of}
 use Rattle.tenant_world.specs.Views.{terms_of}
-use Rattle.far_core.specs.Runs.{CoreEntry, CoreState, Own, own_entry, after_turn, purse_after, count_in, count_of_all, slices_of, IsConserved, IsSound}
+use Rattle.far_core.specs.Runs.{CoreEntry, CoreState, Own, own_entry, after_turn, purse_after, count_of_all, slices_of, IsConserved, IsSoundCore}
 use Rattle.far_core.proofs.Fresh.{Each, AreFresh, IsOwnOf, history_at, named_in, count_in-head, at_most_one}
 
 both_true : (a b : Bool) → a ≡ true → b ≡ true → (a && b) ≡ true
@@ -41,7 +41,7 @@ in_hand shape s user slice rest has there conserved =
     (there_is (nat_lt slice.0 (slices_of shape)) (count_of_all shape s slice.0) (conserved slice.0) (omega arith), omega arith)
 
 -- so a user's own event comes in order
-pub own_in_order : (shape : Shape) (s : CoreState) (user : ℕ) (event : Event) → IsOwnOf shape s user event → IsSound shape s → AreFresh shape s
+pub own_in_order : (shape : Shape) (s : CoreState) (user : ℕ) (event : Event) → IsOwnOf shape s user event → IsSoundCore shape s → AreFresh shape s
     → IsTrue (is_in_order (terms_of shape) (past_of (terms_of shape) first_past (history_at s user)) event)
 own_in_order shape s user (Ask moment request) own sound fresh = refl
 own_in_order shape s user (Grant slice number size) own sound fresh =
@@ -57,7 +57,7 @@ own_in_order shape s user (Grant slice number size) own sound fresh =
     (le-leb (named_for p.named slice) number named)
 
 -- and where it is answered rightly it loses and doubles no slice
-own_conserved : (shape : Shape) (s : CoreState) (user : ℕ) (event : Event) (e : CoreEntry) → IsOwnOf shape s user event → IsSound shape s → AreFresh shape s
+own_conserved : (shape : Shape) (s : CoreState) (user : ℕ) (event : Event) (e : CoreEntry) → IsOwnOf shape s user event → IsSoundCore shape s → AreFresh shape s
     → MayFollow (terms_of shape) (past_of (terms_of shape) first_past (history_at s user)) (own_entry event e) → IsConserved shape (after_turn s e (Own user event))
 own_conserved shape s user event e own sound fresh follows id =
     let t = terms_of shape in
@@ -68,14 +68,14 @@ own_conserved shape s user event e own sound fresh follows id =
     let there : user < length s.histories = omega (arith, own.there, fresh.users) in
     let fit : IsTrue (fits t p.state event) = first_true (fits t p.state event) (is_new p.named event) (own_in_order shape s user event own sound fresh) in
     let grows : held (h ++ last ∷ []) ≡ count_brought id event + held h =
-    ap (λ (q : Past). count_in id q.state.purse) (past_of-push t first_past h last) ∙ count_of-after id t p.state last (rising-past_of t first_past h tt) fit follows.right in
+    ap (λ (q : Past). count_in id q.state.purse) (past_of-push t first_past h last) ∙ count_in-after id t p.state last (rising-past_of t first_past h tt) fit follows.right in
     let sums = sum_by-set held s.histories user (h ++ last ∷ []) [] there in
     let brought = own.brought id in
     let all : count_of_all shape (after_turn s e (Own user event)) id ≡ count_of_all shape s id = omega (arith, grows, sums, brought) in
     all ∙ sound.conserved id
 
-pub own_sound : (shape : Shape) (s : CoreState) (user : ℕ) (event : Event) (e : CoreEntry) → IsOwnOf shape s user event → IsSound shape s → AreFresh shape s
-    → IsLegal (terms_of shape) first_past (history_at s user ++ own_entry event e ∷ []) → IsSound shape (after_turn s e (Own user event))
+pub own_sound : (shape : Shape) (s : CoreState) (user : ℕ) (event : Event) (e : CoreEntry) → IsOwnOf shape s user event → IsSoundCore shape s → AreFresh shape s
+    → IsLegalHistory (terms_of shape) first_past (history_at s user ++ own_entry event e ∷ []) → IsSoundCore shape (after_turn s e (Own user event))
 own_sound shape s user event e own sound fresh legal =
     let t = terms_of shape in
     let h = history_at s user in
@@ -84,19 +84,19 @@ own_sound shape s user event e own sound fresh legal =
     let order : InOrder t first_past (h ++ last ∷ []) = InOrder-push t first_past h last (All-get_or (InOrder t first_past) s.histories user [] there sound.in_order) (own_in_order shape s user event own sound fresh) in
     record {
       in_order = All-set (InOrder t first_past) s.histories user (h ++ last ∷ []) order sound.in_order;
-      legal = All-set (IsLegal t first_past) s.histories user (h ++ last ∷ []) legal sound.legal;
+      legal = All-set (IsLegalHistory t first_past) s.histories user (h ++ last ∷ []) legal sound.legal;
       conserved = own_conserved shape s user event e own sound fresh (last_follows t first_past h last order legal);
     }
 
 -- a draw moves one slice
-pub drawn_sound : (shape : Shape) (s : CoreState) (slice number : ℕ) → s.pool ≡ (slice, number) ∷ drop 1 s.pool → IsSound shape s
-    → IsSound shape (record { pool = drop 1 s.pool; hand = (slice, number) ∷ s.hand; histories = s.histories })
+pub drawn_sound : (shape : Shape) (s : CoreState) (slice number : ℕ) → s.pool ≡ (slice, number) ∷ drop 1 s.pool → IsSoundCore shape s
+    → IsSoundCore shape (record { pool = drop 1 s.pool; hand = (slice, number) ∷ s.hand; histories = s.histories })
 drawn_sound shape s slice number is sound = record {
   in_order = sound.in_order;
   legal = sound.legal;
   conserved = λ id.
-      let taken : count_in id s.pool ≡ cond (slice == id) 1 0 + count_in id (drop 1 s.pool) = ap (λ l. count_in id l) is ∙ count_of-cons id (slice, number) (drop 1 s.pool) in
-      let put = count_of-cons id (slice, number) s.hand in
+      let taken : count_in id s.pool ≡ cond (slice == id) 1 0 + count_in id (drop 1 s.pool) = ap (λ l. count_in id l) is ∙ count_in-cons id (slice, number) (drop 1 s.pool) in
+      let put = count_in-cons id (slice, number) s.hand in
       let held = sum_by (λ h. count_in id (purse_after shape h)) s.histories in
       let all : count_in id (drop 1 s.pool) + count_in id ((slice, number) ∷ s.hand) + held ≡ count_of_all shape s id = omega (arith, taken, put) in
       all ∙ sound.conserved id;

@@ -6,11 +6,11 @@ use Rattle.std.proofs.lemmas.List.Sums.{sum_by-le}
 use Rattle.std.proofs.lemmas.List.Elements.{All-replicate}
 use Rattle.karma_rule.specs.declared.shape.Shape.{Shape}
 use Rattle.far_history.specs.Entries.{Entry}
-use Rattle.far_history.specs.Histories.{first_past, InOrder}
-use Rattle.far_history.specs.Legal.{IsLegal}
-use Rattle.far_history.proofs.Slices.{count_of-cons}
+use Rattle.far_history.specs.Histories.{first_past, InOrder, count_in}
+use Rattle.far_history.specs.Legal.{IsLegalHistory}
+use Rattle.far_history.proofs.Slices.{count_in-cons}
 use Rattle.tenant_world.specs.Views.{terms_of}
-use Rattle.far_core.specs.Runs.{fresh_pool, first_core, slices_of, purse_after, count_in, count_of_all, IsConserved, IsSound}
+use Rattle.far_core.specs.Runs.{fresh_pool, first_core, slices_of, purse_after, count_of_all, IsConserved, IsSoundCore}
 
 abbrev pool_from : ℕ → ℕ → List (ℕ × ℕ)
 pool_from a n = map (λ id. (id, 0)) (range_with_len a n)
@@ -22,7 +22,7 @@ apart_count a id n false e apart = ap (λ c. cond {A = ℕ} c 1 0 + n) e ∙ (le
 count-below : (id a n : ℕ) → id < a → count_in id (pool_from a n) ≡ 0
 count-below id a zero below = refl
 count-below id a (suc n) below =
-    count_of-cons id (a, 0) (pool_from (a + 1) n)
+    count_in-cons id (a, 0) (pool_from (a + 1) n)
     ∙ apart_count a id (count_in id (pool_from (a + 1) n)) (a == id) refl (λ same. absurd (omega arith))
     ∙ count-below id (a + 1) n (omega arith)
 
@@ -34,13 +34,13 @@ count-from id a (suc n) above =
       | true ↦ λ e.
           let same : a ≡ id = eqb-true a id e in
           let others = count-below id (a + 1) n (omega arith) in
-          count_of-cons id (a, 0) (pool_from (a + 1) n)
+          count_in-cons id (a, 0) (pool_from (a + 1) n)
           ∙ (λ i. cond {A = ℕ} (e i) 1 0 + others i)
           ∙ ap (λ b. cond {A = ℕ} b 1 0) (sym (lt-ltb id (a + suc n) (omega arith)))
       | false ↦ λ e.
           let apart : a ≢ id = eqb-false a id e in
           let later : a + 1 ≤ id = omega arith in
-          count_of-cons id (a, 0) (pool_from (a + 1) n)
+          count_in-cons id (a, 0) (pool_from (a + 1) n)
           ∙ apart_count a id (count_in id (pool_from (a + 1) n)) (a == id) refl apart
           ∙ count-from id (a + 1) n later
           ∙ ap (λ m. cond {A = ℕ} (nat_lt id m) 1 0) (let same : a + 1 + n ≡ a + suc n = omega arith in same)
@@ -56,11 +56,11 @@ first_conserved shape id =
     let all : count_of_all shape (first_core shape) id ≡ count_in id (fresh_pool (slices_of shape)) = omega (arith, no_purse) in
     all ∙ free ∙ ap (λ n. cond {A = ℕ} (nat_lt id n) 1 0) (let same : 0 + slices_of shape ≡ slices_of shape = omega arith in same)
 
-pub first_sound : (shape : Shape) → IsSound shape (first_core shape)
+pub first_sound : (shape : Shape) → IsSoundCore shape (first_core shape)
 first_sound shape =
     let nothing : List Entry = [] in
     record {
       in_order = All-replicate (InOrder (terms_of shape) first_past) shape.users nothing tt;
-      legal = All-replicate (IsLegal (terms_of shape) first_past) shape.users nothing tt;
+      legal = All-replicate (IsLegalHistory (terms_of shape) first_past) shape.users nothing tt;
       conserved = first_conserved shape;
     }

@@ -8,14 +8,14 @@ use Rattle.karma_rule.specs.declared.shape.Shape.{Shape}
 use Rattle.far_words.specs.declared.request.Reply.TheVariants.{AbsentUser}
 use Rattle.far_words.specs.declared.request.Outcome.TheVariants.{Reply as Replied, Slice}
 use Rattle.far_history.specs.Entries.{Event, Ask, Grant, Entry}
-use Rattle.far_history.specs.Histories.{Past, past_of, first_past, named_for, InOrder}
-use Rattle.far_history.specs.Legal.{MayFollow, IsLegal}
+use Rattle.far_history.specs.Histories.{Past, past_of, first_past, named_for, InOrder, count_in}
+use Rattle.far_history.specs.Legal.{MayFollow, IsLegalHistory}
 use Rattle.far_history.proofs.Grows.{past_of-push, last_follows}
-use Rattle.far_history.proofs.Slices.{count_brought, count_of-cons, find-uncounted, named_for-after}
+use Rattle.far_history.proofs.Slices.{count_brought, count_in-cons, find-uncounted, named_for-after}
 use Rattle.tenant_world.specs.Views.{terms_of}
 use Rattle.far_core.specs.declared.service.CoreEvent.{CoreEvent}
 use Rattle.far_core.specs.declared.service.CoreEvent.TheVariants.{Ask as Asking, Draw, Grant as Granting}
-use Rattle.far_core.specs.Runs.{CoreEntry, CoreState, Turn, Own, Answered, draw_from, grant_from, turn_of, own_entry, with_entry, hand_after, after_turn, core_after, purse_after, count_in, count_of_all, slices_of, IsConserved, IsSound, first_core, core_of, IsCoreRun, history_of, own_entry_of, own_entries_from, own_entries}
+use Rattle.far_core.specs.Runs.{CoreEntry, CoreState, Turn, Own, Answered, draw_from, grant_from, turn_of, own_entry, with_entry, hand_after, after_turn, core_after, purse_after, count_of_all, slices_of, IsConserved, IsSoundCore, first_core, core_of, IsCoreRun, history_of, own_entry_of, own_entries_from, own_entries}
 use Rattle.far_core.proofs.Longer.{kept_by_run}
 
 -- p of each element
@@ -28,13 +28,13 @@ each_map P Q R f [] ps qs = tt
 each_map P Q R f (x ∷ xs) ps qs = (f x ps.0 qs.0, each_map P Q R f xs ps.1 qs.1)
 
 count_in-tail : (id : ℕ) (x : ℕ × ℕ) (xs : List (ℕ × ℕ)) → count_in id xs ≤ count_in id (x ∷ xs)
-count_in-tail id x xs = omega (arith, count_of-cons id x xs)
+count_in-tail id x xs = omega (arith, count_in-cons id x xs)
 
 pub count_in-head : (x : ℕ × ℕ) (xs : List (ℕ × ℕ)) → 1 ≤ count_in x.0 (x ∷ xs)
 count_in-head x xs =
     let here : (x.0 == x.0) ≡ true = nat_eq-same x.0 in
     let one : cond {A = ℕ} (x.0 == x.0) 1 0 ≡ 1 = ap (λ b. cond {A = ℕ} b 1 0) here in
-    omega (arith, count_of-cons x.0 x xs, one)
+    omega (arith, count_in-cons x.0 x xs, one)
   where
     nat_eq-same : (n : ℕ) → (n == n) ≡ true
     nat_eq-same n = elim (n == n) as (λ b. (n == n) ≡ b → b ≡ true) [ true ↦ λ e. refl | false ↦ λ e. absurd (eqb-false n n e refl) ] refl
@@ -79,7 +79,7 @@ pub grown_is : (s : CoreState) (user : ℕ) (event : Event) (e : CoreEntry) → 
 grown_is s user event e there = get_or-set_same s.histories user (history_at s user ++ own_entry event e ∷ []) [] there
 
 -- the entry follows rightly
-pub grown_follows : (shape : Shape) (s : CoreState) (user : ℕ) (event : Event) (e : CoreEntry) → user < length s.histories → All (InOrder (terms_of shape) first_past) (grown s user event e) → All (IsLegal (terms_of shape) first_past) (grown s user event e)
+pub grown_follows : (shape : Shape) (s : CoreState) (user : ℕ) (event : Event) (e : CoreEntry) → user < length s.histories → All (InOrder (terms_of shape) first_past) (grown s user event e) → All (IsLegalHistory (terms_of shape) first_past) (grown s user event e)
     → MayFollow (terms_of shape) (past_of (terms_of shape) first_past (history_at s user)) (own_entry event e)
 grown_follows shape s user event e there in_order legal =
     let t = terms_of shape in
@@ -88,7 +88,7 @@ grown_follows shape s user event e there in_order legal =
     let within : user < length (grown s user event e) = omega (arith, length-set s.histories user (h ++ last ∷ [])) in
     last_follows t first_past h last
     (subst (InOrder t first_past) (grown_is s user event e there) (All-get_or (InOrder t first_past) (grown s user event e) user [] within in_order))
-    (subst (IsLegal t first_past) (grown_is s user event e there) (All-get_or (IsLegal t first_past) (grown s user event e) user [] within legal))
+    (subst (IsLegalHistory t first_past) (grown_is s user event e there) (All-get_or (IsLegalHistory t first_past) (grown s user event e) user [] within legal))
 
 -- it leaves unchanged what the history names for slices that aren't held and that it doesn't bring
 named_in-push : (shape : Shape) (h : List Entry) (event : Event) (e : CoreEntry) (id : ℕ) → MayFollow (terms_of shape) (past_of (terms_of shape) first_past h) (own_entry event e)
@@ -134,7 +134,7 @@ each_left P hand (Ask moment request) ps = ps
 each_left P [] (Grant slice number size) ps = tt
 each_left P (x ∷ hand) (Grant slice number size) ps = ps.1
 
-own_fresh : (shape : Shape) (s : CoreState) (user : ℕ) (event : Event) (e : CoreEntry) → IsOwnOf shape s user event → IsSound shape s → IsSound shape (after_turn s e (Own user event)) → AreFresh shape s → AreFresh shape (after_turn s e (Own user event))
+own_fresh : (shape : Shape) (s : CoreState) (user : ℕ) (event : Event) (e : CoreEntry) → IsOwnOf shape s user event → IsSoundCore shape s → IsSoundCore shape (after_turn s e (Own user event)) → AreFresh shape s → AreFresh shape (after_turn s e (Own user event))
 own_fresh shape s user event e own sound now fresh =
     let there : user < length s.histories = omega (arith, own.there, fresh.users) in
     let follows = grown_follows shape s user event e there now.in_order now.legal in
@@ -169,7 +169,7 @@ own_of_turn shape s (Granting other) user event is = granted (nat_lt other shape
         let brings : Grant slice.0 slice.1 shape.slice ≡ event = cc in
         subst (IsOwnOf shape s user) brings (record {
           there = subst (λ u. u < shape.users) same (ltb-true other shape.users there);
-          brought = λ id. ap (λ l. count_in id l) has ∙ count_of-cons id slice hand ∙ ap (λ l. cond (slice.0 == id) 1 0 + count_in id (hand_after l (Grant slice.0 slice.1 shape.slice))) (sym has);
+          brought = λ id. ap (λ l. count_in id l) has ∙ count_in-cons id slice hand ∙ ap (λ l. cond (slice.0 == id) 1 0 + count_in id (hand_after l (Grant slice.0 slice.1 shape.slice))) (sym has);
           given = (refl, has ∙ ap (λ l. slice ∷ drop 1 l) (sym has));
         })
 own_of_turn shape s (Asking other request) user event is = asked (nat_lt other shape.users) refl is
@@ -213,10 +213,10 @@ drawn_fresh shape s slice number is fresh =
       hand = λ user. ((subst (Each (P user)) is (fresh.pool user)).0, fresh.hand user);
     }
 
-step_fresh : (shape : Shape) (s : CoreState) (e : CoreEntry) → IsSound shape s → IsSound shape (core_after shape s e) → AreFresh shape s → AreFresh shape (core_after shape s e)
+step_fresh : (shape : Shape) (s : CoreState) (e : CoreEntry) → IsSoundCore shape s → IsSoundCore shape (core_after shape s e) → AreFresh shape s → AreFresh shape (core_after shape s e)
 step_fresh shape s e sound now fresh = by (turn_of shape s e.event) refl now
   where
-    by : (turn : Turn) → turn_of shape s e.event ≡ turn → IsSound shape (after_turn s e turn) → AreFresh shape (after_turn s e turn)
+    by : (turn : Turn) → turn_of shape s e.event ≡ turn → IsSoundCore shape (after_turn s e turn) → AreFresh shape (after_turn s e turn)
     by (Own user event) is now = own_fresh shape s user event e (own_of_turn shape s e.event user event is) sound now fresh
     by (Answered (Slice slice number)) is now = drawn_fresh shape s slice number (drawn_of_turn shape s e.event slice number is) fresh
     by (Answered outcome) is now = fresh

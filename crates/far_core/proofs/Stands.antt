@@ -11,13 +11,13 @@ use Rattle.far_words.specs.declared.request.Outcome.{Outcome}
 use Rattle.far_words.specs.declared.request.Outcome.TheVariants.{Reply as Replied, Slice, HandEmpty, PoolEmpty}
 use Rattle.far_history.specs.Entries.{Event, Ask, Grant}
 use Rattle.far_history.specs.Histories.{Terms, State, fits, is_new, past_of, first_past, InOrder}
-use Rattle.far_history.specs.Legal.{IsLegal}
-use Rattle.far_history.specs.Standing.{StandsFor}
+use Rattle.far_history.specs.Legal.{IsLegalHistory}
+use Rattle.far_history.specs.Standing.{StandsForHistory}
 use Rattle.tenant_world.specs.Views.{TenantView, terms_of}
 use Rattle.far_core.specs.declared.service.CoreEvent.{CoreEvent}
 use Rattle.far_core.specs.declared.service.CoreEvent.TheVariants.{Ask as Asking, Draw, Grant as Granting}
-use Rattle.far_core.specs.Runs.{CoreEntry, CoreState, Turn, Own, Answered, first_core, draw_from, grant_from, for_user, turn_of, own_entry, hand_after, after_turn, core_of, history_of, IsAnswered, IsSound, IsCoreRun, IsLegalFor}
-use Rattle.far_core.specs.Cores.{CoreView, sized, core_entry, StandsForRun, Serves, Gives, draw_of}
+use Rattle.far_core.specs.Runs.{CoreEntry, CoreState, Turn, Own, Answered, first_core, draw_from, grant_from, for_user, turn_of, own_entry, hand_after, after_turn, core_of, history_of, IsAnswered, IsSoundCore, IsCoreRun, IsLegalFor}
+use Rattle.far_core.specs.Cores.{CoreView, sized, core_entry, StandsForRun, GrowsTenant, Gives, draw_of}
 use Rattle.far_core.proofs.Longer.{core_of-push, IsRunFrom-push, sound_after}
 use Rattle.far_core.proofs.Fresh.{AreFresh, fresh_after, IsOwnOf, own_of_turn, drawn_of_turn, grown_is, history_of-entries}
 use Rattle.far_core.proofs.Conserved.{first_true, own_in_order, own_sound, drawn_sound}
@@ -31,9 +31,9 @@ state-push : (core : CoreView) (run : List CoreEntry) (e : CoreEntry) (turn : Tu
 state-push core run e turn is = core_of-push core.shape (first_core core.shape) run e ∙ ap (after_turn (state_in core run) e) is
 
 run-push : (core : CoreView) (run : List CoreEntry) (e : CoreEntry) (turn : Turn) → IsCoreRun core.shape run → turn_of core.shape (state_in core run) e.event ≡ turn → IsAnswered e turn
-    → IsSound core.shape (after_turn (state_in core run) e turn) → IsCoreRun core.shape (run ++ e ∷ [])
+    → IsSoundCore core.shape (after_turn (state_in core run) e turn) → IsCoreRun core.shape (run ++ e ∷ [])
 run-push core run e turn is_run is answered sound =
-    IsRunFrom-push core.shape (first_core core.shape) run e is_run (subst (IsAnswered e) (sym is) answered) (subst (λ turn. IsSound core.shape (after_turn (state_in core run) e turn)) (sym is) sound)
+    IsRunFrom-push core.shape (first_core core.shape) run e is_run (subst (IsAnswered e) (sym is) answered) (subst (λ turn. IsSoundCore core.shape (after_turn (state_in core run) e turn)) (sym is) sound)
 
 -- of the one user there is
 there_is_one : (users user : ℕ) → users ≡ 1 → user < users → user ≡ 0
@@ -42,7 +42,7 @@ there_is_one users user one there = omega arith
 -- an event of the user's own
 pub own_grows : (old : CoreView) (run : List CoreEntry) (e : CoreEntry) (event : Event) (hand : List SliceView) (tenant : TenantView) (moves : MovesView)
     → StandsForRun old run → turn_of old.shape (state_in old run) e.event ≡ Own 0 event → hand ≡ sized old.shape.slice (hand_after (state_in old run).hand event) → tenant.terms ≡ old.tenant.terms
-    → StandsFor tenant.terms tenant.state 0 (history_of old.shape run 0 ++ own_entry event e ∷ [])
+    → StandsForHistory tenant.terms tenant.state 0 (history_of old.shape run 0 ++ own_entry event e ∷ [])
     → StandsForRun (record { shape = old.shape; pool = old.pool; hand = hand; tenant = tenant; moves = moves }) (run ++ e ∷ [])
 own_grows old run e event hand tenant moves stands turn is_hand terms grows =
     let shape = old.shape in
@@ -51,15 +51,15 @@ own_grows old run e event hand tenant moves stands turn is_hand terms grows =
     let own : IsOwnOf shape s 0 event = own_of_turn shape s e.event 0 event turn in
     let fresh : AreFresh shape s = fresh_after shape run stands.is_run in
     let same_terms : tenant.terms ≡ terms_of shape = terms ∙ stands.terms in
-    let legal : IsLegal (terms_of shape) first_past (h ++ own_entry event e ∷ []) = subst (λ t. IsLegal t first_past (h ++ own_entry event e ∷ [])) same_terms grows.legal in
-    let sound : IsSound shape (after_turn s e (Own 0 event)) = own_sound shape s 0 event e own (sound_after shape (first_core shape) run stands.is_run) fresh legal in
+    let legal : IsLegalHistory (terms_of shape) first_past (h ++ own_entry event e ∷ []) = subst (λ t. IsLegalHistory t first_past (h ++ own_entry event e ∷ [])) same_terms grows.legal in
+    let sound : IsSoundCore shape (after_turn s e (Own 0 event)) = own_sound shape s 0 event e own (sound_after shape (first_core shape) run stands.is_run) fresh legal in
     let now : state_in old (run ++ e ∷ []) ≡ after_turn s e (Own 0 event) = state-push old run e (Own 0 event) turn in
     record {
       is_run = run-push old run e (Own 0 event) stands.is_run turn tt sound;
       pool = stands.pool ∙ ap (λ (c : CoreState). sized shape.slice c.pool) (sym now);
       hand = is_hand ∙ ap (λ (c : CoreState). sized shape.slice c.hand) (sym now);
       terms = same_terms;
-      tenant = subst (StandsFor tenant.terms tenant.state 0) (sym (ap (λ (c : CoreState). get_or c.histories 0 []) now ∙ grown_is s 0 event e (let there : 0 < length s.histories = omega (arith, own.there, fresh.users) in there))) grows;
+      tenant = subst (StandsForHistory tenant.terms tenant.state 0) (sym (ap (λ (c : CoreState). get_or c.histories 0 []) now ∙ grown_is s 0 event e (let there : 0 < length s.histories = omega (arith, own.there, fresh.users) in there))) grows;
     }
 
 -- an event that the core answers and that moves no slice
@@ -68,14 +68,14 @@ pub answered_grows : (old : CoreView) (run : List CoreEntry) (e : CoreEntry) (ou
 answered_grows old run e outcome stands turn answered same =
     let shape = old.shape in
     let s = state_in old run in
-    let sound : IsSound shape (after_turn s e (Answered outcome)) = subst (IsSound shape) (sym same) (sound_after shape (first_core shape) run stands.is_run) in
+    let sound : IsSoundCore shape (after_turn s e (Answered outcome)) = subst (IsSoundCore shape) (sym same) (sound_after shape (first_core shape) run stands.is_run) in
     let now : state_in old (run ++ e ∷ []) ≡ s = state-push old run e (Answered outcome) turn ∙ same in
     record {
       is_run = run-push old run e (Answered outcome) stands.is_run turn answered sound;
       pool = stands.pool ∙ ap (λ (c : CoreState). sized shape.slice c.pool) (sym now);
       hand = stands.hand ∙ ap (λ (c : CoreState). sized shape.slice c.hand) (sym now);
       terms = stands.terms;
-      tenant = subst (StandsFor old.tenant.terms old.tenant.state 0) (ap (λ (c : CoreState). get_or c.histories 0 []) (sym now)) stands.tenant;
+      tenant = subst (StandsForHistory old.tenant.terms old.tenant.state 0) (ap (λ (c : CoreState). get_or c.histories 0 []) (sym now)) stands.tenant;
     }
 
 -- a draw of a slice
@@ -85,7 +85,7 @@ drawn_grows : (old : CoreView) (run : List CoreEntry) (e : CoreEntry) (slice : �
 drawn_grows old run e slice rest stands has turn answered =
     let shape = old.shape in
     let s = state_in old run in
-    let sound : IsSound shape (after_turn s e (Answered (Slice slice.0 slice.1))) =
+    let sound : IsSoundCore shape (after_turn s e (Answered (Slice slice.0 slice.1))) =
     drawn_sound shape s slice.0 slice.1 (drawn_of_turn shape s e.event slice.0 slice.1 turn) (sound_after shape (first_core shape) run stands.is_run) in
     let now : state_in old (run ++ e ∷ []) ≡ after_turn s e (Answered (Slice slice.0 slice.1)) = state-push old run e (Answered (Slice slice.0 slice.1)) turn in
     record {
@@ -93,7 +93,7 @@ drawn_grows old run e slice rest stands has turn answered =
       pool = ap (λ l. sized shape.slice (drop 1 l)) (sym has) ∙ ap (λ (c : CoreState). sized shape.slice c.pool) (sym now);
       hand = ap (λ (l : List SliceView). record { id = slice.0; size = shape.slice; number = slice.1 } ∷ l) stands.hand ∙ ap (λ (c : CoreState). sized shape.slice c.hand) (sym now);
       terms = stands.terms;
-      tenant = subst (StandsFor old.tenant.terms old.tenant.state 0) (ap (λ (c : CoreState). get_or c.histories 0 []) (sym now)) stands.tenant;
+      tenant = subst (StandsForHistory old.tenant.terms old.tenant.state 0) (ap (λ (c : CoreState). get_or c.histories 0 []) (sym now)) stands.tenant;
     }
 
 -- a core whose last event moved nothing
@@ -126,7 +126,7 @@ absent_grows old event user turn run still is none stands =
     answered_grows old run (core_entry event (Replied (AbsentUser old.shape.users)) old) (Replied (AbsentUser old.shape.users)) stands (is ∙ for-absent old.shape user turn none)
     (still_answered old event (Replied (AbsentUser old.shape.users)) still) refl
 
-pub ask_grows : (old new : CoreView) (user : ℕ) (request : Request) (outcome : Outcome) (run : List CoreEntry) → old.shape.users ≡ 1 → user < old.shape.users → Serves old (Ask 0 request) outcome new
+pub ask_grows : (old new : CoreView) (user : ℕ) (request : Request) (outcome : Outcome) (run : List CoreEntry) → old.shape.users ≡ 1 → user < old.shape.users → GrowsTenant old (Ask 0 request) outcome new
     → new ≡ record old { tenant = new.tenant; moves = new.moves } → StandsForRun old run → StandsForRun new (run ++ core_entry (Asking user request) outcome new ∷ [])
 ask_grows old new user request outcome run one there serves rest stands =
     let zeroth : user ≡ 0 = there_is_one old.shape.users user one there in
@@ -147,7 +147,7 @@ fits_tenant old run event stands own =
     let fresh : AreFresh shape s = fresh_after shape run stands.is_run in
     let there : 0 < length s.histories = omega (arith, own.there, fresh.users) in
     let order : InOrder t first_past h = All-get_or (InOrder t first_past) s.histories 0 [] there sound.in_order in
-    let tenant : StandsFor t old.tenant.state 0 h = subst (λ (u : Terms). StandsFor u old.tenant.state 0 h) stands.terms stands.tenant in
+    let tenant : StandsForHistory t old.tenant.state 0 h = subst (λ (u : Terms). StandsForHistory u old.tenant.state 0 h) stands.terms stands.tenant in
     (p.state, tenant.same order, subst (λ (u : Terms). IsTrue (fits u p.state event)) (sym stands.terms) (first_true (fits t p.state event) (is_new p.named event) (own_in_order shape s 0 event own sound fresh)))
 
 pub grant_grows : (old new : CoreView) (user : ℕ) (outcome : Outcome) (run : List CoreEntry) → IsStill old → old.shape.users ≡ 1 → user < old.shape.users
@@ -185,5 +185,5 @@ legal_for core run stands user there =
     let own = history_of-entries core.shape run user in
     record {
       in_order = subst (InOrder t first_past) own (All-get_or (InOrder t first_past) s.histories user [] within sound.in_order);
-      legal = subst (IsLegal t first_past) own (All-get_or (IsLegal t first_past) s.histories user [] within sound.legal);
+      legal = subst (IsLegalHistory t first_past) own (All-get_or (IsLegalHistory t first_past) s.histories user [] within sound.legal);
     }

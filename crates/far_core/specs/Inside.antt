@@ -4,8 +4,8 @@ use Rattle.far_words.specs.Moves.{no_moves}
 use Rattle.far_core.specs.declared.service.Core.TheInside.{Inside}
 use Rattle.far_core.specs.Cores.{CoreView}
 
-abbrev pub view_of : Inside → CoreView
-view_of c = record {
+abbrev pub core_view : Inside → CoreView
+core_view c = record {
   shape = c.shape;
   pool = reverse c.slices.pool.items;
   hand = reverse c.slices.hand.items;
@@ -13,7 +13,7 @@ view_of c = record {
   moves = if c.is_own then c.tenant.moves else c.no_moves;
 }
 
-pub record IsWell (c : Inside) : Type 0 where
+pub record IsWellCore (c : Inside) : Type 0 where
   pub one_user : c.shape.users ≡ 1
   pub still : c.no_moves ≡ no_moves 0
   -- the hand has room for what is in the pool

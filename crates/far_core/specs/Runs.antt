@@ -1,5 +1,5 @@
 -- What the events of one thread do to the free slices, to those in hand and to each user's history.
-use Rattle.std.specs.Prelude.{◌≡◌, ℕ, ◌+◌, ◌*◌, ◌==◌, nat_lt, if◌then◌else◌, List, [], ◌∷◌, ◌++◌, map, drop, replicate, All, count_by, sum_by, slice_index_or, slice_set}
+use Rattle.std.specs.Prelude.{◌≡◌, ℕ, ◌+◌, ◌*◌, ◌==◌, nat_lt, if◌then◌else◌, List, [], ◌∷◌, ◌++◌, map, drop, replicate, All, sum_by, slice_index_or, slice_set}
 use Rattle.std.specs.List.{range_with_len}
 use Rattle.karma_rule.specs.declared.shape.Shape.{Shape}
 use Rattle.far_words.specs.declared.request.Reply.TheVariants.{AbsentUser}
@@ -8,8 +8,8 @@ use Rattle.far_words.specs.declared.request.Outcome.TheVariants.{Reply as Replie
 use Rattle.far_words.specs.declared.moves.PlacedRow.{PlacedRow}
 use Rattle.slice_seq.specs.Purses.{Purse}
 use Rattle.far_history.specs.Entries.{Event, Ask, Grant, Entry}
-use Rattle.far_history.specs.Histories.{past_of, first_past, InOrder}
-use Rattle.far_history.specs.Legal.{IsLegal}
+use Rattle.far_history.specs.Histories.{past_of, first_past, InOrder, count_in}
+use Rattle.far_history.specs.Legal.{IsLegalHistory}
 use Rattle.tenant_world.specs.Views.{terms_of}
 use Rattle.far_core.specs.declared.service.CoreEvent.{CoreEvent}
 use Rattle.far_core.specs.declared.service.CoreEvent.TheVariants.{Ask as Asking, Draw, Grant as Granting}
@@ -75,7 +75,8 @@ turn_of shape s (Asking user request) = for_user shape user (Own user (Ask 0 req
 
 -- the entry that a user's own event adds to its history. There is no store, and so no fault of one
 abbrev pub own_entry : Event → CoreEntry → Entry
-own_entry event e = record { event = event; outcome = e.outcome; freed = e.freed; placed = e.placed; before = 0; after = 0 }
+own_entry event e =
+    record { event = event; outcome = e.outcome; freed = e.freed; placed = e.placed; before = 0; after = 0 }
 
 abbrev pub with_entry : List (List Entry) → ℕ → Entry → List (List Entry)
 with_entry histories user e = slice_set histories user (slice_index_or histories user [] ++ e ∷ [])
@@ -87,8 +88,13 @@ hand_after hand (Ask moment request) = hand
 
 -- and a drawn one moves from the pool into the hand
 abbrev pub after_turn : CoreState → CoreEntry → Turn → CoreState
-after_turn s e (Own user event) = record { pool = s.pool; hand = hand_after s.hand event; histories = with_entry s.histories user (own_entry event e) }
-after_turn s e (Answered (Slice slice number)) = record { pool = drop 1 s.pool; hand = (slice, number) ∷ s.hand; histories = s.histories }
+after_turn s e (Own user event) = record {
+  pool = s.pool;
+  hand = hand_after s.hand event;
+  histories = with_entry s.histories user (own_entry event e);
+}
+after_turn s e (Answered (Slice slice number)) =
+    record { pool = drop 1 s.pool; hand = (slice, number) ∷ s.hand; histories = s.histories }
 after_turn s e (Answered outcome) = s
 
 abbrev pub core_after : Shape → CoreState → CoreEntry → CoreState
@@ -102,32 +108,31 @@ core_of shape s (e ∷ run) = core_of shape (core_after shape s e) run
 abbrev pub purse_after : Shape → List Entry → Purse
 purse_after shape h = (past_of (terms_of shape) first_past h).state.purse
 
--- how often a slice stands in a list of slices
-abbrev pub count_in : {X : Type 0} → ℕ → List (ℕ × X) → ℕ
-count_in id slices = count_by (λ e. e.0 == id) slices
-
--- and how often over the pool, the hand and all purses
+-- how often a slice stands in the pool, the hand and all purses
 abbrev pub count_of_all : Shape → CoreState → ℕ → ℕ
-count_of_all shape s id = count_in id s.pool + count_in id s.hand + sum_by (λ h. count_in id (purse_after shape h)) s.histories
+count_of_all shape s id =
+    count_in id s.pool + count_in id s.hand + sum_by (λ h. count_in id (purse_after shape h)) s.histories
 
 -- each slice stands in one place, once, and there are no others
 abbrev pub IsConserved : Shape → CoreState → Type 0
 IsConserved shape s = (id : ℕ) → count_of_all shape s id ≡ (if nat_lt id (slices_of shape) then 1 else 0)
 
--- an event that isn't a user's own is answered so, and moves nothing. What a user's own is answered is told by its history
+-- an event that isn't a user's own is answered so, and moves nothing. What a user's own is answered is told by its
+-- history
 abbrev pub IsAnswered : CoreEntry → Turn → Type 0
 IsAnswered e (Own user event) = Unit {0}
 IsAnswered e (Answered outcome) = (e.outcome ≡ outcome) × (e.freed ≡ []) × (e.placed ≡ [])
 
 -- what holds before and after each event
-pub record IsSound (shape : Shape) (s : CoreState) : Type 0 where
+pub record IsSoundCore (shape : Shape) (s : CoreState) : Type 0 where
   pub in_order : All (InOrder (terms_of shape) first_past) s.histories
-  pub legal : All (IsLegal (terms_of shape) first_past) s.histories
+  pub legal : All (IsLegalHistory (terms_of shape) first_past) s.histories
   pub conserved : IsConserved shape s
 
 abbrev pub IsRunFrom : Shape → CoreState → List CoreEntry → Type 0
-IsRunFrom shape s [] = IsSound shape s
-IsRunFrom shape s (e ∷ run) = IsSound shape s × IsAnswered e (turn_of shape s e.event) × IsRunFrom shape (core_after shape s e) run
+IsRunFrom shape s [] = IsSoundCore shape s
+IsRunFrom shape s (e ∷ run) =
+    IsSoundCore shape s × IsAnswered e (turn_of shape s e.event) × IsRunFrom shape (core_after shape s e) run
 
 -- in each state of the run every user's history is in order and legal, and no slice is lost or doubled;
 -- and draws, grants of an empty hand and events of users that there aren't are answered rightly
@@ -146,7 +151,8 @@ own_entry_of user e (Answered outcome) = []
 -- the same, taken out of the run one after the other
 abbrev pub own_entries_from : Shape → CoreState → List CoreEntry → ℕ → List Entry
 own_entries_from shape s [] user = []
-own_entries_from shape s (e ∷ run) user = own_entry_of user e (turn_of shape s e.event) ++ own_entries_from shape (core_after shape s e) run user
+own_entries_from shape s (e ∷ run) user =
+    own_entry_of user e (turn_of shape s e.event) ++ own_entries_from shape (core_after shape s e) run user
 
 abbrev pub own_entries : Shape → List CoreEntry → ℕ → List Entry
 own_entries shape run user = own_entries_from shape (first_core shape) run user
@@ -154,4 +160,4 @@ own_entries shape run user = own_entries_from shape (first_core shape) run user
 -- they are in order and legal, as a history by itself
 pub record IsLegalFor (shape : Shape) (run : List CoreEntry) (user : ℕ) : Type 0 where
   pub in_order : InOrder (terms_of shape) first_past (own_entries shape run user)
-  pub legal : IsLegal (terms_of shape) first_past (own_entries shape run user)
+  pub legal : IsLegalHistory (terms_of shape) first_past (own_entries shape run user)

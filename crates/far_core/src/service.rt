@@ -2,7 +2,7 @@
 ghost use Rattle.std.specs.Prelude.{◌≡◌, ℕ, ◌<◌, ◌++◌, ◌∷◌, [], List, length, IfOk};
 ghost use Rattle.slice_seq.specs.Slice.{SliceView};
 ghost use Rattle.karma_rule.specs.Limits.{IsStore};
-ghost use Rattle.far_words.specs.Moves.{no_moves};
+ghost use Rattle.far_words.specs.Moves.{AreInOrder, no_moves};
 ghost use Rattle.far_history.specs.Entries.{Ask};
 
 use crate::slices::Slices;
@@ -25,7 +25,8 @@ pub enum CoreEvent {
 
 /// The free slices, the slices in hand, and the tenant of the one user that there is as yet.
 ///
-/// All room for slices is reserved when the core is made. So an event that isn't a request takes no memory, and a few steps.
+/// All room for slices is reserved when the core is made. So an event that isn't a request takes no memory, and a few
+/// steps.
 #[derive(Drop)]
 pub struct Core {
     shape: Shape,
@@ -41,18 +42,18 @@ pub struct Core {
 
 impl Model for Core {
     ghost use Rattle.far_core.specs.Cores.{CoreView};
-    ghost use Rattle.far_core.specs.Inside.{IsWell, view_of};
+    ghost use Rattle.far_core.specs.Inside.{IsWellCore, core_view};
 
     ghost Value = { CoreView };
 
-    ghost view = { view_of };
+    ghost view = { core_view };
 
-    ghost invariant = { IsWell };
+    ghost invariant = { IsWellCore };
 }
 
 impl Core {
     ghost use Rattle.far_core.specs.Runs.{CoreEntry, IsLegalFor};
-    ghost use Rattle.far_core.specs.Cores.{StandsForRun, core_entry, draw_of, Serves, Gives};
+    ghost use Rattle.far_core.specs.Cores.{Gives, GrowsBy, GrowsTenant, StandsForRun, core_entry, draw_of};
 
     /// A core whose slices are all in the pool, under number 0, and whose user has no name.
     pub fn new(alloc: Global, shape: Shape) -> Result<Core, AllocError>
@@ -79,19 +80,20 @@ impl Core {
     /// One event. The run that the core stands for grows by its entry, whatever the event is answered.
     pub fn step(&mut self, event: CoreEvent) -> Outcome
         ensures shape { self.new.shape ≡ self.old.shape }
-        ensures stands { (run : List CoreEntry) → StandsForRun self.old run → StandsForRun self.new (run ++ core_entry event result self.new ∷ []) }
+        ensures stands { GrowsBy self.old (core_entry event result self.new ∷ []) self.new }
 
         // Each user's own events, taken alone, are a legal history in order.
-        ensures each_user { (run : List CoreEntry) → StandsForRun self.old run → (user : ℕ) → user < self.old.shape.users
-            → IsLegalFor self.old.shape (run ++ core_entry event result self.new ∷ []) user }
+        ensures each_user { (run : List CoreEntry) → StandsForRun self.old run
+            → (user : ℕ) → user < self.old.shape.users → IsLegalFor self.old.shape (run ++ core_entry event result self.new ∷ []) user }
     {
         self.is_own = false;
         self.answer(event)
     }
 
-    /// The moves of the last event. An event that isn't a tenant's has none.
+    /// The moves of the last event, in the order of their slices' ids. An event that isn't a tenant's has none.
     pub fn moves(&self) -> &Moves
-        ensures { result.now ≡ self.now.moves }
+        ensures moves { result.now ≡ self.now.moves }
+        ensures order { AreInOrder result.now }
     {
         if self.is_own {
             self.tenant.moves()
@@ -107,7 +109,8 @@ impl Core {
         self.slices.hand.len() as u32
     }
 
-    /// Ends the core, and gives its tenants in the order of their users. The slices of pool and hand are given up. It takes no memory.
+    /// Ends the core, and gives its tenants in the order of their users. The slices of pool and hand are ended, each by
+    /// [`Slice::free`](slice_seq::Slice::free); those that a tenant holds stay with it. It takes no memory.
     pub fn finish(self) -> Vec<Tenant>
         ensures { result.items ≡ self.tenant ∷ [] }
     {
@@ -127,7 +130,7 @@ impl Core {
     fn answer(&mut self, event: CoreEvent) -> Outcome
         requires { self.old.moves ≡ no_moves 0 }
         ensures shape { self.new.shape ≡ self.old.shape }
-        ensures stands { (run : List CoreEntry) → StandsForRun self.old run → StandsForRun self.new (run ++ core_entry event result self.new ∷ []) }
+        ensures stands { GrowsBy self.old (core_entry event result self.new ∷ []) self.new }
     {
         match event {
             CoreEvent::Ask { user, request } => {
@@ -157,7 +160,7 @@ impl Core {
 
     /// A request of the user.
     fn ask(&mut self, request: Request) -> Outcome
-        ensures serves { Serves self.old (Ask 0 request) result self.new }
+        ensures serves { GrowsTenant self.old (Ask 0 request) result self.new }
         ensures rest { self.new ≡ record self.old { tenant = self.new.tenant; moves = self.new.moves } }
     {
         self.is_own = true;
@@ -174,7 +177,8 @@ impl Core {
         ensures shape { self.new.shape ≡ self.old.shape }
         ensures empty { self.old.hand ≡ [] → result ≡ Outcome.HandEmpty }
         ensures kept { self.old.hand ≡ [] → self.new ≡ self.old }
-        ensures given { (slice : SliceView) (hand : List SliceView) → self.old.hand ≡ slice ∷ hand → Gives self.old slice hand result self.new }
+        ensures given { (slice : SliceView) (hand : List SliceView) → self.old.hand ≡ slice ∷ hand
+            → Gives self.old slice hand result self.new }
     {
         let Some(slice) = self.slices.hand.pop() else {
             return Outcome::HandEmpty;

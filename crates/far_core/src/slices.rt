@@ -6,7 +6,8 @@ ghost use Rattle.far_core.specs.Cores.{sized};
 use slice_seq::Slice;
 use std::alloc::{AllocError, Global};
 
-/// Gives the memory of slices back.
+/// Ends slices, each by [`Slice::free`]: those of a pool and a hand that are dropped, and of a pool that can't be made
+/// whole. It gives their memory back.
 pub fn free_all(mut slices: Vec<Slice>) {
     while let Some(slice) = slices.pop() {
         slice.free();
@@ -60,7 +61,7 @@ impl Slices {
 }
 
 impl Drop for Slices {
-    /// Gives the memory of all of them back.
+    /// Ends all of them, and gives their memory back.
     fn drop(self) {
         let Slices { pool, hand } = self;
         free_all(pool);

@@ -15,7 +15,7 @@ pub use blob::Blob;
 pub use moves::{Moves, PlacedRow};
 pub use part::Part;
 pub use path::Path;
-pub use request::{Kind, Outcome, Reply, Request};
+pub use request::{Kind, MOST_IN_FILE, MOST_IN_REQUEST, Outcome, Reply, Request};
 
 #[cfg(test)]
 mod tests;

@@ -2,6 +2,12 @@
 use crate::blob::Blob;
 use crate::path::Path;
 
+/// The most bytes that one request appends or reads.
+pub const MOST_IN_REQUEST: u64 = 65_536;
+
+/// The most bytes of a file, 2^40.
+pub const MOST_IN_FILE: u64 = 1 << 40;
+
 /// What a name stands for.
 #[derive(Clone, Copy, PartialEq, Eq, Debug)]
 pub enum Kind {

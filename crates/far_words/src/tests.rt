@@ -1,13 +1,10 @@
-use crate::{Blob, Moves, Path, PlacedRow};
+//! Moves are kept as they came.
+
+use crate::{Moves, Path, PlacedRow};
 use std::test::Fail;
 
 #[test]
-fn bytes_and_moves_are_kept(rt: HostRuntime) -> Result<(), Fail> {
-    let mut blob = Blob::from_slice(rt.alloc(), b"ab")?;
-    blob.push(b'c')?;
-    blob.extend_from_slice(b"de")?;
-    assert_eq!(rt; blob.items(), b"abcde".as_slice());
-
+fn moves_are_kept(rt: HostRuntime) -> Result<(), Fail> {
     let mut moves = Moves::new(rt.alloc(), 1)?;
     moves.push_freed(7, 3);
     let Some(path) = Path::parse(b"job/in") else {

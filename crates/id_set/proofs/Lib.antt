@@ -1,3 +1,6 @@
+-- the bits of one word
 mod BitLemmas
+-- a level of which the first places are filled
 mod FilledLemmas
+-- a level over the level below it
 mod LevelLemmas

@@ -1,16 +1,13 @@
 -- A line is told by its words.
-use Rattle.std.proofs.Common.{◌≡◌, ◌≢◌, ℕ, ◌^◌, ◌<◌, true, nat_le, Option, Some, None, Result, Ok, Err, List, [], ◌∷◌, length, refl, sym, ◌∙◌, ap, subst, arith}
-use Rattle.std.specs.Prelude.{IsTrue, IfSome, IfNone, codes}
+use Rattle.std.proofs.Common.{◌≡◌, ◌≢◌, ℕ, ◌^◌, ◌<◌, Option, Some, None, Result, Ok, Err, List, [], ◌∷◌, refl, sym, ◌∙◌, ap, arith}
+use Rattle.std.specs.Prelude.{IfSome, IfNone, codes}
 use Rattle.std.specs.Result.{IfOk}
 use Rattle.std.specs.Fmt.{decimal}
-use Rattle.std.specs.List.{list_all, join_with_byte}
-use Rattle.std.proofs.lemmas.Bool.{false≢true, and_parts}
+use Rattle.std.specs.List.{join_with_byte}
 use Rattle.std.proofs.lemmas.Fmt.{decimal_injective}
-use Rattle.std.proofs.lemmas.List.Splits.{join_with_byte-slice_split}
 use Rattle.far_io.specs.Words.{words_of, HasNoSpace}
 use Rattle.far_io.proofs.Escapes.{escaped_injective, escaped_one_word}
-use Rattle.far_io.proofs.WordLaws.{HasNoSpace-append, HaveNoSpace, words_of-joined, joined-words_of, decimal_one_word, no_space_by_test}
-use Rattle.far_words.specs.Paths.{is_between, is_name_byte, is_part, slash, parts_of, is_path}
+use Rattle.far_io.proofs.WordLaws.{HaveNoSpace, words_of-joined, joined-words_of, decimal_one_word, no_space_by_test}
 use Rattle.far_words.specs.declared.request.Kind.{Kind}
 use Rattle.far_words.specs.declared.request.Kind.TheVariants.{File}
 use Rattle.far_words.specs.declared.request.Request.{Request}
@@ -19,30 +16,8 @@ use Rattle.script_text.specs.declared.line.ScriptLine.{ScriptLine}
 use Rattle.script_text.specs.declared.line.ScriptLine.TheVariants.{Ask, Draw, Grant}
 use Rattle.script_text.specs.Words.{joined}
 use Rattle.script_text.proofs.Asked.{differ}
+use Rattle.script_text.proofs.OneLine.{word_no_space, path_word}
 use Rattle.script_text.specs.Lines.{kind_word, request_word, field_words, line_words, line_text, IsRequest, IsScriptLine, IsLineOf, IsNoLineOf, IsNoAsk, IsNoLine}
-
-name_one_word : (text : List ℕ) → list_all is_name_byte text ≡ true → HasNoSpace text
-name_one_word [] names = tt
-name_one_word (byte ∷ bytes) names =
-    let parts = and_parts (is_name_byte byte) (list_all is_name_byte bytes) names in
-    (λ space. false≢true (subst (λ b. is_name_byte b ≡ true) space parts.0), name_one_word bytes parts.1)
-
-part_one_word : (text : List ℕ) → is_part text ≡ true → HasNoSpace text
-unfolding is_part
-part_one_word text part = name_one_word text (and_parts (is_between 1 32 (length text)) (list_all is_name_byte text) part).1
-
-parts_one_word : (parts : List (List ℕ)) → list_all is_part parts ≡ true → HasNoSpace (join_with_byte slash parts)
-parts_one_word [] parts = tt
-parts_one_word (part ∷ []) parts = part_one_word part (and_parts (is_part part) true parts).0
-parts_one_word (part ∷ next ∷ more) parts =
-    let both = and_parts (is_part part) (list_all is_part (next ∷ more)) parts in
-    HasNoSpace-append part (slash ∷ join_with_byte slash (next ∷ more)) (part_one_word part both.0) (λ e. absurd (omega arith), parts_one_word (next ∷ more) both.1)
-
-path_one_word : (path : List ℕ) → IsTrue (is_path path) → HasNoSpace path
-unfolding is_path
-path_one_word path good =
-    subst HasNoSpace (join_with_byte-slice_split slash path)
-    (parts_one_word (parts_of path) (and_parts (nat_le (length (parts_of path)) 8) (list_all is_part (parts_of path)) good).1)
 
 kind_one_word : (kind : Kind) → HasNoSpace (kind_word kind)
 kind_one_word File = no_space_by_test (codes "file") refl
@@ -51,10 +26,10 @@ wide : (n : ℕ) → n < 2 ^ 32 → n < 2 ^ 64
 wide n low = omega arith
 
 fields_apart : (request : Request) → IsRequest request → HaveNoSpace (field_words request)
-fields_apart (Make path kind span) within = (path_one_word path within.0, (kind_one_word kind, (decimal_one_word span within.1, tt)))
-fields_apart (Append path bytes) within = (path_one_word path within.0, (escaped_one_word bytes, tt))
-fields_apart (Read path from len) within = (path_one_word path within.0, (decimal_one_word from within.1, (decimal_one_word len (wide len within.2), tt)))
-fields_apart (Length path) within = (path_one_word path within, tt)
+fields_apart (Make path kind span) within = (word_no_space path (path_word path within.0), (kind_one_word kind, (decimal_one_word span within.1, tt)))
+fields_apart (Append path bytes) within = (word_no_space path (path_word path within.0), (escaped_one_word bytes, tt))
+fields_apart (Read path from len) within = (word_no_space path (path_word path within.0), (decimal_one_word from within.1, (decimal_one_word len (wide len within.2), tt)))
+fields_apart (Length path) within = (word_no_space path (path_word path within), tt)
 
 verb_apart : (request : Request) → HasNoSpace (request_word request)
 verb_apart (Make path kind span) = no_space_by_test (codes "make") refl

@@ -1,6 +1,14 @@
+-- a line is its words
 pub mod Words
+-- the word of each request
 pub mod Verbs
+-- the lines of a script
 pub mod Lines
+-- the words of a request's line, apart from its user
 pub mod Fields
+-- the line of an outcome
 pub mod Outcomes
+-- the lines of moves
 pub mod Moves
+-- what is written of events
+pub mod Told

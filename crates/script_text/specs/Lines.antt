@@ -69,5 +69,5 @@ abbrev pub IsNoLine : List ℕ → Type 0
 IsNoLine text = (line : ScriptLine) → IsScriptLine line → text ≢ line_text line
 
 -- one spelling: where the text is that of a line, this line is what it stands for
-abbrev pub IsReadBack : {E : Type 0} → List ℕ → Result (Option ScriptLine) E → Type 0
-IsReadBack text result = (line : ScriptLine) → IsScriptLine line → text ≡ line_text line → IfOk result (λ found. found ≡ Some line)
+abbrev pub IsLineReadBack : {E : Type 0} → List ℕ → Result (Option ScriptLine) E → Type 0
+IsLineReadBack text result = (line : ScriptLine) → IsScriptLine line → text ≡ line_text line → IfOk result (λ found. found ≡ Some line)

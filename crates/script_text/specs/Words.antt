@@ -1,5 +1,5 @@
 -- A line is its words, with one space between each two.
-use Rattle.std.specs.Prelude.{ℕ, List, [], ◌∷◌, ◌++◌}
+use Rattle.std.specs.Prelude.{◌≢◌, ℕ, List, [], ◌∷◌, ◌++◌}
 use Rattle.std.specs.List.{join_with_byte}
 
 unfoldable pub joined : List (List ℕ) → List ℕ
@@ -8,3 +8,8 @@ joined words = join_with_byte 32 words
 -- with its line end
 abbrev pub ended : List (List ℕ) → List ℕ
 ended words = joined words ++ 10 ∷ []
+
+-- no line end is among these bytes
+abbrev pub HasNoEnd : List ℕ → Type 0
+HasNoEnd [] = Unit {0}
+HasNoEnd (byte ∷ bytes) = (byte ≢ 10) × HasNoEnd bytes

@@ -63,8 +63,5 @@ pub fn last_bytes(alloc: Global, words: Option<&[u8]>) -> Result<Option<Blob>, A
     if others.is_some() {
         return Ok(None);
     }
-    match parse_escaped(alloc, word)? {
-        Some(bytes) => Ok(Some(Blob::from(bytes.into_vec()))),
-        None => Ok(None),
-    }
+    parse_escaped(alloc, word)
 }

@@ -1,6 +1,9 @@
 //! The text of a script's lines, of outcomes and of moves. `docs/FORMATS.md` has the grammar.
 #![tactic(auto)]
 
+mod explain;
+#[cfg(test)]
+mod explain_tests;
 mod fields;
 mod line;
 mod moves;
@@ -11,6 +14,7 @@ mod rows;
 mod tests;
 mod verb;
 
+pub use explain::explain_line;
 pub use line::{ScriptLine, parse_line};
 pub use moves::write_moves;
 pub use outcome::write_outcome;

@@ -3,7 +3,7 @@
 ghost use Rattle.std.specs.Prelude.{◌≡◌, ◌∷◌, IfSome, IfNone, IfOk};
 ghost use Rattle.std.specs.Option.{option_copied};
 ghost use Rattle.far_io.specs.Words.{words_after};
-ghost use Rattle.script_text.specs.Lines.{line_text, IsScriptLine, IsLineOf, IsNoAsk, IsNoLineOf, IsNoLine, IsReadBack};
+ghost use Rattle.script_text.specs.Lines.{line_text, IsScriptLine, IsLineOf, IsNoAsk, IsNoLineOf, IsNoLine, IsLineReadBack};
 
 use crate::fields::last_number;
 use crate::request::parse_request;
@@ -23,7 +23,7 @@ pub enum ScriptLine {
     Grant { user: u32 },
 }
 
-// A request of a user: the line begins with this word, and has these words after it.
+/// A request of a user: the line begins with this word, and has these words after it.
 fn parse_asked(
     alloc: Global,
     word: &[u8],
@@ -44,7 +44,7 @@ fn parse_asked(
     }
 }
 
-// The line that has these words: this one, and those after it.
+/// The line that has these words: this one, and those after it.
 fn parse_words(
     alloc: Global,
     word: &[u8],
@@ -75,7 +75,7 @@ pub fn parse_line(alloc: Global, text: &[u8]) -> Result<Option<ScriptLine>, Allo
     ensures none { IfOk result (λ found. IfNone found (IsNoLine text.now)) }
 
     // Each line has one spelling, and each spelling is of one line.
-    ensures one_spelling { IsReadBack text.now result }
+    ensures one_spelling { IsLineReadBack text.now result }
 {
     let (word, words) = split_word(text);
     parse_words(alloc, word, words)

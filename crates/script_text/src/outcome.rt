@@ -1,25 +1,26 @@
 //! Outcome lines.
 
-ghost use Rattle.std.specs.Prelude.{◌+◌, ◌*◌, ◌≤◌, ◌∷◌, [], ◌++◌, length, map, codes, decimal, OnErr, OnOk};
+ghost use Rattle.std.specs.Prelude.{◌≡◌, ◌+◌, ◌*◌, ◌≤◌, ◌∷◌, [], ◌++◌, length, map, codes, decimal, OnErr, OnOk};
 ghost use Rattle.far_io.specs.Faults.{HasCause};
 ghost use Rattle.far_io.specs.Adds.{Adds, AddsPrefix};
 ghost use Rattle.far_io.specs.Escapes.{escaped};
 ghost use Rattle.far_io.specs.Sends.{Sends};
+ghost use Rattle.script_text.specs.declared.rows.TheConstants.{NUMBER_ROOM};
 ghost use Rattle.script_text.specs.Words.{ended};
-ghost use Rattle.script_text.specs.Outcomes.{reply_words, outcome_text};
+ghost use Rattle.script_text.specs.Outcomes.{reply_words, outcome_text, OutcomeFits, IsOutcomeLine};
 
 use crate::rows::{NUMBER_ROOM, push_line};
 use far_io::{Piece, Sink, WriteFault, flush, make_room, push_escaped};
 use far_words::{Outcome, Reply};
 
-// Puts a line of a word and numbers.
+/// Puts a line of a word and numbers.
 fn put_line<O: Sink>(
     word: &[u8],
     numbers: &[u64],
     sink: &mut O,
     piece: &mut Piece,
 ) -> Result<(), WriteFault>
-    requires { length word.now + 21 * length numbers.now + 1 ≤ 4096 }
+    requires { length word.now + NUMBER_ROOM * length numbers.now + 1 ≤ 4096 }
     ensures sends { OnOk result (Sends O.took sink.old sink.new piece.old piece.new (ended (word.now ∷ map decimal numbers.now))) }
     ensures prefix { OnErr result (AddsPrefix O.took sink.old sink.new (piece.old ++ ended (word.now ∷ map decimal numbers.now))) }
     ensures cause { HasCause (O.faults sink.old) (O.faults sink.new) result }
@@ -29,7 +30,7 @@ fn put_line<O: Sink>(
     Ok(())
 }
 
-// Puts the line of bytes that were read.
+/// Puts the line of bytes that were read.
 fn put_bytes<O: Sink>(bytes: &[u8], sink: &mut O, piece: &mut Piece) -> Result<(), WriteFault>
     ensures sends { OnOk result (Sends O.took sink.old sink.new piece.old piece.new (ended (codes "bytes" ∷ escaped bytes.now ∷ []))) }
     ensures prefix { OnErr result (AddsPrefix O.took sink.old sink.new (piece.old ++ ended (codes "bytes" ∷ escaped bytes.now ∷ []))) }
@@ -44,6 +45,7 @@ fn put_bytes<O: Sink>(bytes: &[u8], sink: &mut O, piece: &mut Piece) -> Result<(
     Ok(())
 }
 
+/// Puts the line of a reply.
 fn put_reply<O: Sink>(reply: &Reply, sink: &mut O, piece: &mut Piece) -> Result<(), WriteFault>
     ensures sends { OnOk result (Sends O.took sink.old sink.new piece.old piece.new (ended (reply_words reply.now))) }
     ensures prefix { OnErr result (AddsPrefix O.took sink.old sink.new (piece.old ++ ended (reply_words reply.now))) }
@@ -68,6 +70,7 @@ fn put_reply<O: Sink>(reply: &Reply, sink: &mut O, piece: &mut Piece) -> Result<
     }
 }
 
+/// Puts the line of an outcome.
 #[tactic(auto, unfolding(crate::specs::Outcomes::outcome_text))]
 fn put_outcome<O: Sink>(
     outcome: &Outcome,
@@ -91,12 +94,17 @@ fn put_outcome<O: Sink>(
     }
 }
 
+#[tactic(auto, using(crate::proofs::Cutting::outcome_text_injective, crate::proofs::Cutting::outcome_line))]
 /// Writes the outcome's line, with its line end, in pieces of 4 KiB. After a fault the sink took a prefix of it. It takes
 /// no memory.
 pub fn write_outcome<O: Sink>(outcome: &Outcome, sink: &mut O) -> Result<(), WriteFault>
     ensures all { OnOk result (Adds O.took sink.old sink.new (outcome_text outcome.now)) }
     ensures prefix { OnErr result (AddsPrefix O.took sink.old sink.new (outcome_text outcome.now)) }
     ensures cause { HasCause (O.faults sink.old) (O.faults sink.new) result }
+
+    // Each outcome has one spelling, and each spelling is one line and of one outcome. No line of moves begins as it does.
+    ensures one_spelling { (one other : Outcome) → OutcomeFits one → OutcomeFits other → outcome_text one ≡ outcome_text other → one ≡ other }
+    ensures one_line { (one : Outcome) → OutcomeFits one → IsOutcomeLine (outcome_text one) }
 {
     let mut piece = Piece::new();
     put_outcome(outcome, sink, &mut piece)?;

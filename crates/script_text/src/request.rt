@@ -11,7 +11,7 @@ use far_io::next_number;
 use far_words::Request;
 use std::alloc::{AllocError, Global};
 
-// `PATH KIND SPAN`
+/// `PATH KIND SPAN`
 fn parse_make(fields: Option<&[u8]>) -> Option<Request>
     ensures some { IfSome result (λ request. IsAsked (codes "make") (words_after (option_copied fields.entry)) request) }
     ensures none { IfNone result (IsNotAsked (codes "make") (words_after (option_copied fields.entry))) }
@@ -22,7 +22,7 @@ fn parse_make(fields: Option<&[u8]>) -> Option<Request>
     Some(Request::Make { path, kind, span })
 }
 
-// `PATH E`
+/// `PATH E`
 fn parse_append(alloc: Global, fields: Option<&[u8]>) -> Result<Option<Request>, AllocError>
     ensures some { IfOk result (λ found. IfSome found (λ request. IsAsked (codes "append") (words_after (option_copied fields.entry)) request)) }
     ensures none { IfOk result (λ found. IfNone found (IsNotAsked (codes "append") (words_after (option_copied fields.entry)))) }
@@ -36,7 +36,7 @@ fn parse_append(alloc: Global, fields: Option<&[u8]>) -> Result<Option<Request>,
     }
 }
 
-// `PATH FROM LEN`
+/// `PATH FROM LEN`
 fn parse_read(fields: Option<&[u8]>) -> Option<Request>
     ensures some { IfSome result (λ request. IsAsked (codes "read") (words_after (option_copied fields.entry)) request) }
     ensures none { IfNone result (IsNotAsked (codes "read") (words_after (option_copied fields.entry))) }
@@ -51,7 +51,7 @@ fn parse_read(fields: Option<&[u8]>) -> Option<Request>
     })
 }
 
-// `PATH`
+/// `PATH`
 fn parse_length(fields: Option<&[u8]>) -> Option<Request>
     ensures some { IfSome result (λ request. IsAsked (codes "length") (words_after (option_copied fields.entry)) request) }
     ensures none { IfNone result (IsNotAsked (codes "length") (words_after (option_copied fields.entry))) }

@@ -1,3 +1,6 @@
+//! Lines of a script, and the lines that are written of outcomes and moves.
+ghost use Rattle.std.specs.Prelude.{◌≡◌, IfOk};
+
 use crate::{ScriptLine, parse_line, write_moves, write_outcome};
 use far_io::{MemSink, WriteFault};
 use far_words::{Blob, Kind, Moves, Outcome, Path, PlacedRow, Reply, Request};
@@ -164,7 +167,9 @@ fn outcome_lines(rt: HostRuntime) -> Result<(), Fail> {
     Ok(())
 }
 
-fn row(slice: u32, index: u64) -> Result<PlacedRow, Fail> {
+fn row(slice: u32, index: u64) -> Result<PlacedRow, Fail>
+    ensures { IfOk result (λ row. row.slice ≡ slice) }
+{
     Ok(PlacedRow {
         slice,
         number: 2,
@@ -174,12 +179,12 @@ fn row(slice: u32, index: u64) -> Result<PlacedRow, Fail> {
 }
 
 #[test]
-fn moves_are_in_order_of_slices(rt: HostRuntime) -> Result<(), Fail> {
+fn freed_slices_come_first(rt: HostRuntime) -> Result<(), Fail> {
     let mut moves = Moves::new(rt.alloc(), 2)?;
-    moves.push_freed(3, 7);
     moves.push_freed(0, 2);
-    moves.push_placed(row(2, 2)?)?;
+    moves.push_freed(3, 7);
     moves.push_placed(row(1, 1)?)?;
+    moves.push_placed(row(2, 2)?)?;
     let mut sink = MemSink::new(rt.alloc(), Vec::new(rt.alloc()));
     write_moves(&moves, &mut sink)?;
     assert_eq!(rt;

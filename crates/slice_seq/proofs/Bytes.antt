@@ -1,5 +1,5 @@
 -- The bytes of a block stand at the front of its buffer.
-use Rattle.std.proofs.Common.{◌≡◌, ℕ, ◌+◌, ◌≤◌, List, length, take, drop, max, arith, rules, ap, ◌∙◌}
+use Rattle.std.proofs.Common.{◌≡◌, ℕ, ◌+◌, ◌≤◌, List, length, take, max, arith, rules}
 use Rattle.std.proofs.lemmas.List.{same_lists, places}
 use Rattle.slice_seq.specs.Used.{written_at}
 

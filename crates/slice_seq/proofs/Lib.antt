@@ -1,1 +1,4 @@
+-- the bytes of a slice's buffer
 mod Bytes
+-- how many slices a file needs to grow
+pub mod Needs

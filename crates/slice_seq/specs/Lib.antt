@@ -1,3 +1,8 @@
+-- a slice without a block
 pub mod Slice
+-- a slice with a block
 pub mod Used
+-- the slices that a user holds
 pub mod Purses
+-- how many slices a file needs to grow
+pub mod Needs

@@ -137,7 +137,8 @@ impl Slice {
         })
     }
 
-    /// Gives the slice's memory back for good.
+    /// Gives the slice's memory back for good. Nothing that goes on calls it: what holds slices does where it ends itself, as a
+    /// user's home does and the thread's pool and hand.
     pub fn free(self) {
         let Slice {
             id: _,

@@ -19,11 +19,12 @@ use Rattle.far_words.specs.declared.request.Reply.TheVariants.{Number}
 use Rattle.far_words.specs.declared.request.Outcome.TheVariants.{Reply as Replied}
 use Rattle.far_words.specs.declared.moves.PlacedRow.{PlacedRow}
 use Rattle.slice_seq.specs.Purses.{open_slices}
-use Rattle.far_history.specs.Worlds.{FileBody, Node, World, with_node, bytes_in, bytes_at}
-use Rattle.far_history.specs.Answers.{most_in_request, most_in_file, answer}
+use Rattle.far_history.specs.Worlds.{FileBody, Node, World, with_node, body_bytes, bytes_named}
+use Rattle.far_words.specs.declared.request.TheConstants.{MOST_IN_REQUEST, MOST_IN_FILE}
+use Rattle.far_history.specs.Answers.{answer}
 use Rattle.far_history.specs.Entries.{Ask, Entry}
-use Rattle.far_history.specs.Layouts.{Layout, Kept, KeptDir, KeptFile, kept_at, blocks_of, numbers_of, new_numbers, kept_longer}
-use Rattle.far_history.specs.Histories.{Terms, State, with_placed}
+use Rattle.far_history.specs.Layouts.{Layout, KeptAs, KeptDir, KeptFile, kept_at, kept_blocks, block_numbers, new_numbers, kept_longer}
+use Rattle.far_history.specs.Histories.{Terms, State, after_placed}
 use Rattle.far_history.specs.Needs.{Spot, spots, placing, IsKeptWhole}
 use Rattle.far_history.specs.Legal.{Places}
 use Rattle.far_history.specs.Standing.{IsServed, plain_entry}
@@ -33,34 +34,34 @@ use Rattle.block_home.specs.Purses.{place_of}
 use Rattle.tenant_world.proofs.Spots.{spots-append}
 
 -- what was put is found
-pub kept_at-put : (layout : Layout) (path : List ℕ) (kept : Kept) → kept_at (put bytes_cmp path kept layout) path ≡ kept
+pub kept_at-put : (layout : Layout) (path : List ℕ) (kept : KeptAs) → kept_at (put bytes_cmp path kept layout) path ≡ kept
 kept_at-put layout path kept =
-    ap (λ (o : Option Kept). unwrap_or o KeptDir)
+    ap (λ (o : Option KeptAs). unwrap_or o KeptDir)
     (find-put bytes_cmp nat_list_cmp_total path path kept layout ∙ ap (λ o. cond (is_eq o) (Some kept) (find bytes_cmp path layout)) (tied_itself nat_list_cmp_total path))
 
 -- the blocks of a file that grows, where the new ones have the lowest free numbers
-pub longer-is : (size : ℕ) (layout : Layout) (path blocks added : List ℕ) (count : ℕ) → kept_at layout path ≡ KeptFile blocks → new_numbers (length added) (numbers_of layout) ≡ added → length added ≡ div_ceil count size - length blocks
+pub longer-is : (size : ℕ) (layout : Layout) (path blocks added : List ℕ) (count : ℕ) → kept_at layout path ≡ KeptFile blocks → new_numbers (length added) (block_numbers layout) ≡ added → length added ≡ div_ceil count size - length blocks
     → kept_longer size layout path count ≡ KeptFile (blocks ++ added)
 longer-is size layout path blocks added count kept numbers many =
-    ap (λ (k : Kept). KeptFile (blocks_of k ++ new_numbers (div_ceil count size - length (blocks_of k)) (numbers_of layout))) kept
-    ∙ ap (λ n. KeptFile (blocks ++ new_numbers n (numbers_of layout))) (sym many)
+    ap (λ (k : KeptAs). KeptFile (kept_blocks k ++ new_numbers (div_ceil count size - length (kept_blocks k)) (block_numbers layout))) kept
+    ∙ ap (λ n. KeptFile (blocks ++ new_numbers n (block_numbers layout))) (sym many)
     ∙ ap (λ l. KeptFile (blocks ++ l)) numbers
 
 -- a file that is there grew by bytes that are within the limits, into blocks that took the lowest free numbers and the lowest open slices
 pub record Appends (t : Terms) (s : State) (path more bytes blocks added : List ℕ) (lease : ℕ) (rows : List PlacedRow) (u : State) : Type 0 where
   pub some : 1 ≤ t.size
-  pub short : length more ≤ most_in_request
-  pub within : length bytes + length more ≤ most_in_file
+  pub short : length more ≤ MOST_IN_REQUEST
+  pub within : length bytes + length more ≤ MOST_IN_FILE
   pub file : IsFile s.world path lease bytes
   pub whole : IsKeptWhole t s path blocks
   pub resident : All (λ block. is_some (place_of s.purse block) ≡ true) blocks
-  pub numbers : new_numbers (length added) (numbers_of s.layout) ≡ added
+  pub numbers : new_numbers (length added) (block_numbers s.layout) ≡ added
   pub many : length added ≡ div_ceil (length bytes + length more) t.size - length blocks
   pub rows_are : rows ≡ placing (open_slices s.purse) (map (λ i. (path, i)) (range_with_len (length blocks) (length added)))
   pub each_placed : length rows ≡ length added
   pub world : u.world ≡ with_node s.world path (record { lease = lease; body = FileBody (bytes ++ more) })
   pub layout : u.layout ≡ put bytes_cmp path (KeptFile (blocks ++ added)) s.layout
-  pub purse : u.purse ≡ with_placed u.layout s.purse rows
+  pub purse : u.purse ≡ after_placed u.layout s.purse rows
 
 module _ (t : Terms) (s : State) (path more bytes blocks added : List ℕ) (lease at : ℕ) (rows : List PlacedRow) (u : State) (a : Appends t s path more bytes blocks added lease rows u) where
   abbrev entry : Entry
@@ -69,8 +70,8 @@ module _ (t : Terms) (s : State) (path more bytes blocks added : List ℕ) (leas
   answered : answer s.world (Append path more) ≡ (with_node s.world path (record { lease = lease; body = FileBody (bytes ++ more) }), Number (length bytes + length more))
   answered = answer-append s.world path more lease bytes a.short a.file a.within
 
-  bytes_are : bytes_at s.world path ≡ bytes
-  bytes_are = ap (λ (o : Option Node). option_map_or (λ node. bytes_in node.body) o []) a.file.node
+  bytes_are : bytes_named s.world path ≡ bytes
+  bytes_are = ap (λ (o : Option Node). option_map_or (λ node. body_bytes node.body) o []) a.file.node
 
   spots_are : spots t s (Append path more) ≡ map (λ i. (path, i)) (range_with_len (length blocks) (length added))
   spots_are =
@@ -94,10 +95,10 @@ module _ (t : Terms) (s : State) (path more bytes blocks added : List ℕ) (leas
   world_is = a.world ∙ sym (ap (λ (r : World × Reply). r.0) answered)
 
   layout_is : u.layout ≡ put bytes_cmp path (kept_longer t.size s.layout path (length bytes + length more)) s.layout
-  layout_is = a.layout ∙ ap (λ (k : Kept). put bytes_cmp path k s.layout) (sym longer)
+  layout_is = a.layout ∙ ap (λ (k : KeptAs). put bytes_cmp path k s.layout) (sym longer)
 
-  purse_is : u.purse ≡ with_placed (put bytes_cmp path (kept_longer t.size s.layout path (length bytes + length more)) s.layout) s.purse rows
-  purse_is = a.purse ∙ ap (λ (l : Layout). with_placed l s.purse rows) layout_is
+  purse_is : u.purse ≡ after_placed (put bytes_cmp path (kept_longer t.size s.layout path (length bytes + length more)) s.layout) s.purse rows
+  purse_is = a.purse ∙ ap (λ (l : Layout). after_placed l s.purse rows) layout_is
 
   -- so a history says of it
   pub append-served : IsServed t s (plain_entry (Ask at (Append path more)) (Replied (Number (length bytes + length more))) rows) u

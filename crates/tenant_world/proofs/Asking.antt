@@ -11,7 +11,8 @@ use Rattle.far_words.specs.declared.request.Kind.TheVariants.{File as FileKind}
 use Rattle.far_words.specs.declared.request.Request.TheVariants.{Make, Append, Read, Length}
 use Rattle.far_words.specs.declared.request.Reply.TheVariants.{Done, Number, Bytes, Absent, WrongKind, Exists, Full, NoMemory}
 use Rattle.far_history.specs.Worlds.{Body, FileBody, with_node, lease_from}
-use Rattle.far_history.specs.Answers.{most_in_request, most_in_file, empty_body}
+use Rattle.far_words.specs.declared.request.TheConstants.{MOST_IN_REQUEST, MOST_IN_FILE}
+use Rattle.far_history.specs.Answers.{empty_body}
 use Rattle.far_history.specs.Layouts.{kept_empty}
 use Rattle.far_history.specs.Histories.{State}
 use Rattle.far_history.specs.Plain.{seen_by}
@@ -23,8 +24,8 @@ use Rattle.tenant_world.specs.declared.names.Content.{Content}
 use Rattle.tenant_world.specs.declared.names.Content.TheVariants.{File}
 use Rattle.tenant_world.specs.declared.names.Named.{Named}
 use Rattle.tenant_world.specs.Contents.{IsSoundContent, file_of}
-use Rattle.tenant_world.specs.Views.{TenantView, body_of, node_of, kept_of, state_of, told_state}
-use Rattle.tenant_world.specs.Serves.{IsStill, Serves}
+use Rattle.tenant_world.specs.Views.{TenantView, body_of, named_node, kept_of, state_of, told_state}
+use Rattle.tenant_world.specs.Serves.{IsStill, KeepsHolding, Serves}
 use Rattle.tenant_world.specs.Well.{AreKept}
 use Rattle.tenant_world.proofs.Served.{told_some, node_found, node_absent, serves_refused, serves_excused, serves_done}
 use Rattle.tenant_world.proofs.Kept.{file_is, sound_found}
@@ -65,67 +66,67 @@ module _ (moment : ℕ) (names : List (List ℕ × Named)) (home : HomeView) (ke
         file = record { node = node_found moment names home path named found ∙ ap (λ (b : Body). Some (record { lease = named.lease; body = b })) content.1.body };
       }
 
-  module _ (v : TenantView) (was : v.state ≡ told_state moment names home) (new : TenantView) (still : IsStill new.moves) (same : new.state ≡ v.state) (path : List ℕ) where
+  module _ (v : TenantView) (was : v.state ≡ told_state moment names home) (new : TenantView) (still : IsStill new.moves) (stays : KeepsHolding v new) (same : new.state ≡ v.state) (path : List ℕ) where
     -- where nothing is changed
     pub make_under : (named : Named) (child : List ℕ) (kind : Kind) (span : ℕ) → lookup (is_at (bytes_cmp path)) names ≡ Some named → parent_of child ≡ Some path → Serves v (Make child kind span) WrongKind new
     make_under named child kind span found under =
         let at = file_at path named found in
-        serves_refused moment names home v was new still (Make child kind span) WrongKind (omega arith) same (Asked.refusal-make-under_file at_hand.world child path kind span named.lease at.bytes under at.file) refl refl
+        serves_refused moment names home v was new still stays (Make child kind span) WrongKind (omega arith) same (Asked.refusal-make-under_file at_hand.world child path kind span named.lease at.bytes under at.file) refl refl
 
     pub make_nowhere : (child : List ℕ) (kind : Kind) (span : ℕ) → lookup (is_at (bytes_cmp path)) names ≡ None → parent_of child ≡ Some path → Serves v (Make child kind span) Absent new
     make_nowhere child kind span none under =
-        serves_refused moment names home v was new still (Make child kind span) Absent (omega arith) same (Asked.refusal-make-absent at_hand.world child path kind span under (node_absent moment names home path none)) refl refl
+        serves_refused moment names home v was new still stays (Make child kind span) Absent (omega arith) same (Asked.refusal-make-absent at_hand.world child path kind span under (node_absent moment names home path none)) refl refl
 
     pub make_again : (named : Named) (kind : Kind) (span : ℕ) → lookup (is_at (bytes_cmp path)) names ≡ Some named → parent_of path ≡ None → Serves v (Make path kind span) Exists new
     make_again named kind span found top =
-        serves_refused moment names home v was new still (Make path kind span) Exists (omega arith) same (Asked.refusal-make-exists at_hand.world path kind span (node_of home named) top (node_found moment names home path named found)) refl refl
+        serves_refused moment names home v was new still stays (Make path kind span) Exists (omega arith) same (Asked.refusal-make-exists at_hand.world path kind span (named_node home named) top (node_found moment names home path named found)) refl refl
 
     pub make_starved : (kind : Kind) (span : ℕ) → lookup (is_at (bytes_cmp path)) names ≡ None → parent_of path ≡ None → Serves v (Make path kind span) NoMemory new
     make_starved kind span none top =
-        serves_excused moment names home v was new still (Make path kind span) NoMemory (omega arith) same (Asked.refusal-make at_hand.world path kind span top (node_absent moment names home path none)) refl (λ strays e. refl) refl
+        serves_excused moment names home v was new still stays (Make path kind span) NoMemory (omega arith) same (Asked.refusal-make at_hand.world path kind span top (node_absent moment names home path none)) refl (λ strays e. refl) refl
 
-    pub append_nowhere : (more : List ℕ) → length more ≤ most_in_request → lookup (is_at (bytes_cmp path)) names ≡ None → Serves v (Append path more) Absent new
+    pub append_nowhere : (more : List ℕ) → length more ≤ MOST_IN_REQUEST → lookup (is_at (bytes_cmp path)) names ≡ None → Serves v (Append path more) Absent new
     append_nowhere more few none =
-        serves_refused moment names home v was new still (Append path more) Absent (omega arith) same (Asked.refusal-append-absent at_hand.world path more few (node_absent moment names home path none)) refl refl
+        serves_refused moment names home v was new still stays (Append path more) Absent (omega arith) same (Asked.refusal-append-absent at_hand.world path more few (node_absent moment names home path none)) refl refl
 
-    pub append_full : (named : Named) (more : List ℕ) → length more ≤ most_in_request → lookup (is_at (bytes_cmp path)) names ≡ Some named → most_in_file < (file_of named.content).length + length more → Serves v (Append path more) (Full most_in_file) new
+    pub append_full : (named : Named) (more : List ℕ) → length more ≤ MOST_IN_REQUEST → lookup (is_at (bytes_cmp path)) names ≡ Some named → MOST_IN_FILE < (file_of named.content).length + length more → Serves v (Append path more) (Full MOST_IN_FILE) new
     append_full named more few found above =
         let at = file_at path named found in
-        serves_refused moment names home v was new still (Append path more) (Full most_in_file) (omega arith) same
-        (Asked.refusal-append-full at_hand.world path more named.lease at.bytes few at.file (subst (λ n. most_in_file < n + length more) at.is.long above)) refl refl
+        serves_refused moment names home v was new still stays (Append path more) (Full MOST_IN_FILE) (omega arith) same
+        (Asked.refusal-append-overfull at_hand.world path more named.lease at.bytes few at.file (subst (λ n. MOST_IN_FILE < n + length more) at.is.long above)) refl refl
 
-    pub append_starved : (named : Named) (more : List ℕ) → length more ≤ most_in_request → lookup (is_at (bytes_cmp path)) names ≡ Some named → (file_of named.content).length + length more ≤ most_in_file → Serves v (Append path more) NoMemory new
+    pub append_starved : (named : Named) (more : List ℕ) → length more ≤ MOST_IN_REQUEST → lookup (is_at (bytes_cmp path)) names ≡ Some named → (file_of named.content).length + length more ≤ MOST_IN_FILE → Serves v (Append path more) NoMemory new
     append_starved named more few found within =
         let at = file_at path named found in
-        serves_excused moment names home v was new still (Append path more) NoMemory (omega arith) same
-        (Asked.refusal-append at_hand.world path more named.lease at.bytes few at.file (subst (λ n. n + length more ≤ most_in_file) at.is.long within)) refl (λ strays e. refl) refl
+        serves_excused moment names home v was new still stays (Append path more) NoMemory (omega arith) same
+        (Asked.refusal-append at_hand.world path more named.lease at.bytes few at.file (subst (λ n. n + length more ≤ MOST_IN_FILE) at.is.long within)) refl (λ strays e. refl) refl
 
-    pub read_nowhere : (from len : ℕ) → len ≤ most_in_request → lookup (is_at (bytes_cmp path)) names ≡ None → Serves v (Read path from len) Absent new
+    pub read_nowhere : (from len : ℕ) → len ≤ MOST_IN_REQUEST → lookup (is_at (bytes_cmp path)) names ≡ None → Serves v (Read path from len) Absent new
     read_nowhere from len few none =
-        serves_refused moment names home v was new still (Read path from len) Absent (omega arith) same (Asked.refusal-read-absent at_hand.world path from len few (node_absent moment names home path none)) refl refl
+        serves_refused moment names home v was new still stays (Read path from len) Absent (omega arith) same (Asked.refusal-read-absent at_hand.world path from len few (node_absent moment names home path none)) refl refl
 
-    pub read_starved : (named : Named) (from len : ℕ) → len ≤ most_in_request → lookup (is_at (bytes_cmp path)) names ≡ Some named → Serves v (Read path from len) NoMemory new
+    pub read_starved : (named : Named) (from len : ℕ) → len ≤ MOST_IN_REQUEST → lookup (is_at (bytes_cmp path)) names ≡ Some named → Serves v (Read path from len) NoMemory new
     read_starved named from len few found =
         let at = file_at path named found in
-        serves_excused moment names home v was new still (Read path from len) NoMemory (omega arith) same (Asked.refusal-read at_hand.world path from len named.lease at.bytes few at.file) refl (λ strays e. refl) refl
+        serves_excused moment names home v was new still stays (Read path from len) NoMemory (omega arith) same (Asked.refusal-read at_hand.world path from len named.lease at.bytes few at.file) refl (λ strays e. refl) refl
 
-    pub read_done : (named : Named) (from len : ℕ) (out : List ℕ) → len ≤ most_in_request → lookup (is_at (bytes_cmp path)) names ≡ Some named → ((file : FileView) (bytes : List ℕ) → named.content ≡ File file → IsFile home file bytes → out ≡ take len (drop from bytes)) → Serves v (Read path from len) (Bytes out) new
+    pub read_done : (named : Named) (from len : ℕ) (out : List ℕ) → len ≤ MOST_IN_REQUEST → lookup (is_at (bytes_cmp path)) names ≡ Some named → ((file : FileView) (bytes : List ℕ) → named.content ≡ File file → IsFile home file bytes → out ≡ take len (drop from bytes)) → Serves v (Read path from len) (Bytes out) new
     read_done named from len out few found are =
         let at = file_at path named found in
         let is : out ≡ take len (drop from at.bytes) = read_is home named.content from len out are at.bytes at.is in
-        serves_done moment names home v was new still (Read path from len) (Bytes out) (omega (arith, ap length is, length-take len (drop from at.bytes))) at_hand.world
+        serves_done moment names home v was new still stays (Read path from len) (Bytes out) (omega (arith, ap length is, length-take len (drop from at.bytes))) at_hand.world
         (Asked.refusal-read at_hand.world path from len named.lease at.bytes few at.file) refl
         (Asked.answer-read at_hand.world path from len named.lease at.bytes few at.file ∙ ap (λ b. (at_hand.world, Bytes b)) (sym is)) refl
         (λ strays. same ∙ was ∙ told_some moment names home strays)
 
     pub length_nowhere : lookup (is_at (bytes_cmp path)) names ≡ None → Serves v (Length path) Absent new
     length_nowhere none =
-        serves_refused moment names home v was new still (Length path) Absent (omega arith) same (Asked.refusal-length-absent at_hand.world path (node_absent moment names home path none)) refl refl
+        serves_refused moment names home v was new still stays (Length path) Absent (omega arith) same (Asked.refusal-length-absent at_hand.world path (node_absent moment names home path none)) refl refl
 
     pub length_done : (named : Named) → lookup (is_at (bytes_cmp path)) names ≡ Some named → Serves v (Length path) (Number ((file_of named.content).length)) new
     length_done named found =
         let at = file_at path named found in
-        serves_done moment names home v was new still (Length path) (Number ((file_of named.content).length)) (omega arith) at_hand.world
+        serves_done moment names home v was new still stays (Length path) (Number ((file_of named.content).length)) (omega arith) at_hand.world
         (Asked.refusal-found at_hand.world (Length path) path (record { lease = named.lease; body = FileBody at.bytes }) refl refl at.file.node refl) refl
         (Asked.answer-length at_hand.world path named.lease at.bytes at.file ∙ ap (λ n. (at_hand.world, Number n)) (sym at.is.long)) refl
         (λ strays. same ∙ was ∙ told_some moment names home strays)
@@ -136,18 +137,18 @@ pub made_state : (moment : ℕ) (names made : List (List ℕ × Named)) (home : 
 made_state moment names made home path FileKind named is empty i = record {
   world = record {
     moment = moment;
-    names = (ap (seen_by (node_of home)) is ∙ sym (put-seen_by (node_of home) path named names) ∙ ap (λ (c : Content). put bytes_cmp path (record { lease = named.lease; body = body_of home c }) (seen_by (node_of home) names)) empty) i;
+    names = (ap (seen_by (named_node home)) is ∙ sym (put-seen_by (named_node home) path named names) ∙ ap (λ (c : Content). put bytes_cmp path (record { lease = named.lease; body = body_of home c }) (seen_by (named_node home) names)) empty) i;
   };
   purse = home.purse;
   layout = (ap (seen_by (λ (n : Named). kept_of n.content)) is ∙ sym (put-seen_by (λ (n : Named). kept_of n.content) path named names) ∙ ap (λ (c : Content). put bytes_cmp path (kept_of c) (seen_by (λ (n : Named). kept_of n.content) names)) empty) i;
 }
 
-pub make_done : (moment : ℕ) (names made : List (List ℕ × Named)) (home : HomeView) (v : TenantView) → v.state ≡ told_state moment names home → (new : TenantView) → IsStill new.moves → (path : List ℕ) (kind : Kind) (span : ℕ) (named : Named) → new.state ≡ told_state moment made home
+pub make_done : (moment : ℕ) (names made : List (List ℕ × Named)) (home : HomeView) (v : TenantView) → v.state ≡ told_state moment names home → (new : TenantView) → IsStill new.moves → KeepsHolding v new → (path : List ℕ) (kind : Kind) (span : ℕ) (named : Named) → new.state ≡ told_state moment made home
     → parent_of path ≡ None → lookup (is_at (bytes_cmp path)) names ≡ None → made ≡ insert_entry bytes_cmp names path named → named.lease ≡ lease_from (state_of moment names home).world span → named.content ≡ File empty_file → Serves v (Make path kind span) Done new
-make_done moment names made home v was new still path kind span named becomes top none is lease empty =
+make_done moment names made home v was new still stays path kind span named becomes top none is lease empty =
     let s : State = state_of moment names home in
     let absent = node_absent moment names home path none in
-    serves_done moment names home v was new still (Make path kind span) Done (omega arith) (with_node s.world path (record { lease = lease_from s.world span; body = empty_body kind }))
+    serves_done moment names home v was new still stays (Make path kind span) Done (omega arith) (with_node s.world path (record { lease = lease_from s.world span; body = empty_body kind }))
     (Asked.refusal-make s.world path kind span top absent) refl (Asked.answer-make s.world path kind span top absent) refl
     (λ strays. becomes ∙ told_some moment made home strays ∙ ap Some (made_state moment names made home path kind named is empty
     ∙ ap (λ (l : ℕ). record { world = with_node s.world path (record { lease = l; body = empty_body kind }); purse = home.purse; layout = put bytes_cmp path (kept_empty kind) s.layout }) lease))

@@ -2,20 +2,21 @@
 use Rattle.std.proofs.Common.{◌≡◌, ℕ, suc, ◌+◌, ◌≤◌, not, Bool, true, false, cond, List, [], ◌∷◌, ◌++◌, length, map, refl, sym, ap, subst, ◌∙◌, arith, Some}
 use Rattle.std.specs.declared.option.Option.{Option}
 use Rattle.std.specs.Option.{option_map, option_map_or}
-use Rattle.std.specs.List.{slice_get, range_with_len}
+use Rattle.std.specs.List.{slice_get, range_with_len, filter, AllByRecursion}
 use Rattle.std.specs.List.Sorted.{IsStrictlySortedBy}
 use Rattle.std.specs.Map.{keys_of}
 use Rattle.std.specs.Ordering.{nat_cmp}
+use Rattle.std.specs.declared.cmp.Ordering.TheVariants.{Less}
 use Rattle.std.specs.Cmp.{nat_cmp_total}
 use Rattle.std.proofs.lemmas.List.{append_assoc, append-nil, length-append, length-map, take_all}
 use Rattle.std.proofs.lemmas.List.Elements.{filter-append}
 use Rattle.slice_seq.specs.Purses.{Held, Purse, is_used, granted, open_slices, holding}
-use Rattle.far_history.specs.Layouts.{Layout, Kept, KeptFile, kept_at, block_in}
-use Rattle.far_history.specs.Histories.{with_placed}
+use Rattle.far_history.specs.Layouts.{Layout, KeptAs, KeptFile, kept_at, kept_block}
+use Rattle.far_history.specs.Histories.{after_placed}
 use Rattle.far_history.specs.Needs.{placing}
 use Rattle.block_home.specs.declared.moves.PlacedBlock.{PlacedBlock}
 use Rattle.block_home.specs.Purses.{lowest, next_place, with_block}
-use Rattle.block_home.specs.Noted.{MovesView, no_moves, noting_placed}
+use Rattle.block_home.specs.Noted.{NotedView, no_moves, noting_placed}
 use Rattle.block_home.specs.Homes.{HomeView, room_of}
 use Rattle.block_file.specs.Growth.{AddsBlocks, Grows, with_placed_block}
 use Rattle.tenant_world.specs.Rows.{rows_of}
@@ -102,6 +103,36 @@ rows_of-placed_in path index slices [] = refl
 rows_of-placed_in path index [] (block ∷ blocks) = refl
 rows_of-placed_in path index (e ∷ slices) (block ∷ blocks) = ap (λ l. record { slice = e.0; number = e.1.number + 1; path = path; index = index } ∷ l) (rows_of-placed_in path (index + 1) slices blocks)
 
+-- the slices that pass a test are in the order of the purse
+filter_keys : (P : ℕ → Type 0) (p : ℕ × Held → Bool) (purse : Purse) → AllByRecursion P (keys_of purse) → AllByRecursion P (keys_of (filter p purse))
+filter_keys P p [] all = tt
+filter_keys P p (e ∷ purse) all =
+    let rest = filter_keys P p purse all.1 in
+    elim (p e) as (λ b. AllByRecursion P (keys_of (cond b (e ∷ filter p purse) (filter p purse)))) [ true ↦ (all.0, rest) | false ↦ rest ]
+
+filter_ascends : (p : ℕ × Held → Bool) (purse : Purse) → Ascends purse → Ascends (filter p purse)
+unfolding IsStrictlySortedBy
+filter_ascends p [] ascends = tt
+filter_ascends p (e ∷ purse) ascends =
+    let rest = filter_ascends p purse ascends.1 in
+    let above = filter_keys (λ k. nat_cmp e.0 k ≡ Less) p purse ascends.0 in
+    elim (p e) as (λ b. Ascends (cond b (e ∷ filter p purse) (filter p purse))) [ true ↦ (above, rest) | false ↦ rest ]
+
+pub open_ascends : (purse : Purse) → Ascends purse → Ascends (open_slices purse)
+open_ascends purse ascends = filter_ascends (λ e. not (is_used e.1)) purse ascends
+
+-- and so are the rows of blocks that take them
+rows_keys : (P : ℕ → Type 0) (path : List ℕ) (index : ℕ) (slices : Purse) (blocks : List ℕ) → AllByRecursion P (keys_of slices) → AllByRecursion P (map (λ row. row.slice) (rows_of path index (placed_in slices blocks)))
+rows_keys P path index slices [] all = tt
+rows_keys P path index [] (block ∷ blocks) all = tt
+rows_keys P path index (e ∷ slices) (block ∷ blocks) all = (all.0, rows_keys P path (index + 1) slices blocks all.1)
+
+pub rows_ascend : (path : List ℕ) (index : ℕ) (slices : Purse) (blocks : List ℕ) → Ascends slices → IsStrictlySortedBy nat_cmp (map (λ row. row.slice) (rows_of path index (placed_in slices blocks)))
+unfolding IsStrictlySortedBy
+rows_ascend path index slices [] ascends = tt
+rows_ascend path index [] (block ∷ blocks) ascends = tt
+rows_ascend path index (e ∷ slices) (block ∷ blocks) ascends = (rows_keys (λ k. nat_cmp e.0 k ≡ Less) path (index + 1) slices blocks ascends.0, rows_ascend path (index + 1) slices blocks ascends.1)
+
 -- one row more
 pub rows_of-push : (path : List ℕ) (index : ℕ) (placed : List PlacedBlock) (one : PlacedBlock) (at : ℕ) → at ≡ index + length placed
     → rows_of path index (placed ++ one ∷ []) ≡ rows_of path index placed ++ record { slice = one.slice; number = one.number; path = path; index = at } ∷ []
@@ -114,7 +145,7 @@ length-rows_of path index (p ∷ placed) = ap suc (length-rows_of path (index + 
 
 -- the home with one block more, where these slices are open
 module _ (home : HomeView) (e : ℕ × Held) (others : Purse) (is : open_slices home.purse ≡ e ∷ others) (block : ℕ) where
-  noted-is : (bytes : List ℕ) (moves : MovesView) → home.moves ≡ moves → length moves.placed + 1 ≤ moves.most
+  noted-is : (bytes : List ℕ) (moves : NotedView) → home.moves ≡ moves → length moves.placed + 1 ≤ moves.most
       → (with_placed_block home block bytes).moves ≡ record { most = moves.most; freed = moves.freed; placed = moves.placed ++ record { slice = e.0; number = e.1.number + 1; block = block } ∷ [] }
   noted-is bytes moves moves_are room =
       (λ i. noting_placed (moves_are i) (next_place-is home.purse e others is block i) block)
@@ -122,7 +153,7 @@ module _ (home : HomeView) (e : ℕ × Held) (others : Purse) (is : open_slices 
       (take_all moves.most (moves.placed ++ record { slice = e.0; number = e.1.number + 1; block = block } ∷ []) (omega (arith, length-append moves.placed (record { slice = e.0; number = e.1.number + 1; block = block } ∷ []))))
 
 -- what was noted before, and then the new blocks in the open slices, lowest first
-pub adds_moves : (old : HomeView) (added : List ℕ) (new : HomeView) (slices : Purse) (moves : MovesView) → AddsBlocks old added new → Ascends old.purse → open_slices old.purse ≡ slices → old.moves ≡ moves
+pub adds_moves : (old : HomeView) (added : List ℕ) (new : HomeView) (slices : Purse) (moves : NotedView) → AddsBlocks old added new → Ascends old.purse → open_slices old.purse ≡ slices → old.moves ≡ moves
     → length added ≤ length slices → length moves.placed + length added ≤ moves.most
     → new.moves ≡ record { most = moves.most; freed = moves.freed; placed = moves.placed ++ placed_in slices added }
 adds_moves old [] new slices moves same ascends is moves_are room fits =
@@ -148,24 +179,24 @@ at_end : (front : List ℕ) (block : ℕ) (blocks : List ℕ) → slice_get (fro
 at_end [] block blocks = refl
 at_end (x ∷ front) block blocks = at_end front block blocks
 
-block_at_end : (layout : Layout) (path front : List ℕ) (block : ℕ) (blocks : List ℕ) → kept_at layout path ≡ KeptFile (front ++ block ∷ blocks) → block_in (kept_at layout path) (length front) ≡ Some block
-block_at_end layout path front block blocks kept = ap (λ (k : Kept). block_in k (length front)) kept ∙ at_end front block blocks
+block_at_end : (layout : Layout) (path front : List ℕ) (block : ℕ) (blocks : List ℕ) → kept_at layout path ≡ KeptFile (front ++ block ∷ blocks) → kept_block (kept_at layout path) (length front) ≡ Some block
+block_at_end layout path front block blocks kept = ap (λ (k : KeptAs). kept_block k (length front)) kept ∙ at_end front block blocks
 
 -- the purse after is the one that a history has after these rows
 pub adds_purse : (layout : Layout) (path front : List ℕ) (index : ℕ) (old : HomeView) (added : List ℕ) (new : HomeView) (slices : Purse) → AddsBlocks old added new → Ascends old.purse → open_slices old.purse ≡ slices
     → length added ≤ length slices → index ≡ length front → kept_at layout path ≡ KeptFile (front ++ added)
-    → new.purse ≡ with_placed layout old.purse (rows_of path index (placed_in slices added))
+    → new.purse ≡ after_placed layout old.purse (rows_of path index (placed_in slices added))
 adds_purse layout path front index old [] new slices same ascends is room at kept = ap (λ (h : HomeView). h.purse) same
 adds_purse layout path front index old (block ∷ added) new [] adds ascends is room at kept = absurd (omega arith)
 adds_purse layout path front index old (block ∷ added) new (e ∷ others) adds ascends is room at kept =
-    let here : block_in (kept_at layout path) index ≡ Some block = ap (block_in (kept_at layout path)) at ∙ block_at_end layout path front block added kept in
-    let placed : with_block old.purse block ≡ holding old.purse e.0 (e.1.number + 1) (block_in (kept_at layout path) index) =
+    let here : kept_block (kept_at layout path) index ≡ Some block = ap (kept_block (kept_at layout path)) at ∙ block_at_end layout path front block added kept in
+    let placed : with_block old.purse block ≡ holding old.purse e.0 (e.1.number + 1) (kept_block (kept_at layout path) index) =
     with_block-is old.purse e others is block ∙ ap (λ (b : Option ℕ). holding old.purse e.0 (e.1.number + 1) b) (sym here) in
     let next : index + 1 ≡ length (front ++ block ∷ []) = omega (arith, length-append front (block ∷ [])) in
     adds_purse layout path (front ++ block ∷ []) (index + 1) (with_placed_block old block adds.0) added new others adds.2
     (with_block-ascends old.purse e others is block ascends) (with_block-open old.purse e others is block ascends) (omega arith) next
     (kept ∙ ap (λ (bs : List ℕ). KeptFile bs) (sym (append_assoc front (block ∷ []) added)))
-    ∙ ap (λ (p : Purse). with_placed layout p (rows_of path (index + 1) (placed_in others added))) placed
+    ∙ ap (λ (p : Purse). after_placed layout p (rows_of path (index + 1) (placed_in others added))) placed
 
 -- a file grew in a home that had noted nothing, and there were slices enough
 module _ (old new : HomeView) (added : List ℕ) (most : ℕ) (grows : Grows old added new) (ascends : Ascends old.purse) (room : length added ≤ room_of old) (none : old.moves ≡ no_moves most) (fits : length added ≤ most) where
@@ -173,7 +204,7 @@ module _ (old new : HomeView) (added : List ℕ) (most : ℕ) (grows : Grows old
   grows_moves = adds_moves (record old { blocks = grows.blocks }) added new (open_slices old.purse) (no_moves most) grows.adds ascends refl none room (omega arith)
 
   pub grows_placed : new.moves.placed ≡ placed_in (open_slices old.purse) added
-  grows_placed = ap (λ (m : MovesView). m.placed) grows_moves
+  grows_placed = ap (λ (m : NotedView). m.placed) grows_moves
 
   pub grows_count : length new.moves.placed ≡ length added
   grows_count = ap length grows_placed ∙ length-placed_in (open_slices old.purse) added room
@@ -183,10 +214,10 @@ module _ (old new : HomeView) (added : List ℕ) (most : ℕ) (grows : Grows old
   grows_rows path first = ap (rows_of path first) grows_placed ∙ rows_of-placed_in path first (open_slices old.purse) added
 
   -- and the purse is the one that these rows lead to
-  pub grows_purse : (layout : Layout) (path front : List ℕ) (first : ℕ) → first ≡ length front → kept_at layout path ≡ KeptFile (front ++ added) → new.purse ≡ with_placed layout old.purse (rows_of path first new.moves.placed)
+  pub grows_purse : (layout : Layout) (path front : List ℕ) (first : ℕ) → first ≡ length front → kept_at layout path ≡ KeptFile (front ++ added) → new.purse ≡ after_placed layout old.purse (rows_of path first new.moves.placed)
   grows_purse layout path front first at kept =
       adds_purse layout path front first (record old { blocks = grows.blocks }) added new (open_slices old.purse) grows.adds ascends refl room at kept
-      ∙ ap (λ l. with_placed layout old.purse (rows_of path first l)) (sym grows_placed)
+      ∙ ap (λ l. after_placed layout old.purse (rows_of path first l)) (sym grows_placed)
 
   pub grows_keys : keys_of new.purse ≡ keys_of old.purse
   grows_keys = adds_keys (record old { blocks = grows.blocks }) added new (open_slices old.purse) grows.adds ascends refl room

@@ -1,12 +1,15 @@
 -- Requests that a state answers.
-use Rattle.std.proofs.Common.{◌≡◌, ◌≤◌, ℕ, max, Bool, true, false, ◌==◌, cond, MatchBool, is_some, IsNone, List, [], ◌∷◌, ◌++◌, take, refl, ap, sym, subst, ◌∙◌, Some, None, le_refl}
+use Rattle.std.proofs.Common.{◌≡◌, ◌≤◌, ℕ, max, Bool, true, false, ◌==◌, cond, MatchBool, is_some, IsNone, List, [], ◌∷◌, ◌++◌, take, map, refl, ap, sym, subst, ◌∙◌, Some, None, le_refl}
 use Rattle.std.proofs.lemmas.Bool.{eqb-true}
 use Rattle.std.specs.declared.option.Option.{Option}
 use Rattle.std.specs.Option.{option_map}
-use Rattle.std.specs.Map.{lookup}
+use Rattle.std.specs.List.Sorted.{IsStrictlySortedBy}
+use Rattle.std.specs.Ordering.{nat_cmp}
+use Rattle.std.specs.Map.{lookup, keys_of}
 use Rattle.std.specs.BTreeMap.{is_at}
 use Rattle.far_words.specs.Paths.{bytes_cmp}
-use Rattle.far_words.specs.Moves.{MovesView}
+use Rattle.far_words.specs.Moves.{MovesView, AreInOrder, no_moves}
+use Rattle.far_words.specs.declared.moves.PlacedRow.{PlacedRow}
 use Rattle.far_words.specs.declared.request.Request.{Request}
 use Rattle.far_words.specs.declared.request.Reply.{Reply}
 use Rattle.far_words.specs.declared.request.Outcome.{Outcome}
@@ -15,18 +18,18 @@ use Rattle.far_history.specs.Worlds.{World, node_at}
 use Rattle.far_history.specs.Answers.{answer, refusal}
 use Rattle.far_history.proofs.Asked.{answer-refused}
 use Rattle.far_history.specs.Entries.{Event, Ask, Entry}
-use Rattle.far_history.specs.Histories.{Terms, State, at_event, after, is_excuse, layout_asked}
+use Rattle.far_history.specs.Histories.{Terms, State, at_event, after_entry, is_excuse, layout_asked}
 use Rattle.far_history.specs.Needs.{spots, parked_spots}
-use Rattle.far_history.specs.Legal.{Excuse, IsOutcome, IsRight, Places}
-use Rattle.far_history.specs.Standing.{frame_bytes, most_in_frame, IsServed, IsStep, StandsFor, plain_entry}
+use Rattle.far_history.specs.Legal.{Excuse, IsOutcome, IsRightEntry, Places}
+use Rattle.far_history.specs.Standing.{frame_bytes, most_in_frame, IsServed, IsStep, StandsForHistory, plain_entry}
 use Rattle.far_history.proofs.Grows.{stands_more}
 use Rattle.far_history.proofs.Seen.{find-seen_by}
-use Rattle.block_home.specs.Homes.{HomeView}
+use Rattle.block_home.specs.Homes.{HomeView, granted_of}
 use Rattle.tenant_world.specs.declared.names.Named.{Named}
-use Rattle.tenant_world.specs.Views.{TenantView, entry_from, node_of, state_of, told_state}
+use Rattle.tenant_world.specs.Views.{TenantView, entry_from, named_node, state_of, told_state}
 use Rattle.tenant_world.specs.declared.tenant.Tenant.TheInside.{Inside}
-use Rattle.tenant_world.specs.Well.{view_of}
-use Rattle.tenant_world.specs.Serves.{IsStill, IsAsked, Serves}
+use Rattle.tenant_world.specs.Well.{tenant_view}
+use Rattle.tenant_world.specs.Serves.{IsStill, IsAskStep, KeepsHolding, Serves}
 
 -- where there is a state no slice is kept aside, and the state is that of the fields
 pub record IsTold (moment : ℕ) (names : List (List ℕ × Named)) (home : HomeView) (s : State) : Type 0 where
@@ -136,7 +139,7 @@ done t s request reply moves moment w still refuses plain answers fits none =
 
 -- a request that is answered in a state is a step of the state before its moment was taken
 pub asked : (old : TenantView) (names : List (List ℕ × Named)) (home : HomeView) (before moment now : ℕ) (request : Request) (reply : Reply) (taken new : TenantView) → old.state ≡ told_state before names home → taken.terms ≡ old.terms → taken.state ≡ told_state now names home → now ≡ max before moment
-    → Serves taken request reply new → IsAsked old moment request reply new
+    → Serves taken request reply new → IsAskStep old moment request reply new
 asked old names home before moment now request reply taken new was terms is raises serves = record {
   answered = serves.answered;
   right = λ v e.
@@ -147,8 +150,8 @@ asked old names home before moment now request reply taken new was terms is rais
       let served = serves.right moment at here in
       let entry : Entry = entry_from (Ask moment request) (Replied reply) new.moves in
       let right : IsOutcome taken.terms at entry (Ask moment request) (Replied reply) = served.2.right in (
-        subst (λ (t : Terms). IsRight t v entry) terms right,
-        served.1 ∙ ap Some served.2.left ∙ ap (λ (t : Terms). Some (after t v entry)) terms,
+        subst (λ (t : Terms). IsRightEntry t v entry) terms right,
+        served.1 ∙ ap Some served.2.left ∙ ap (λ (t : Terms). Some (after_entry t v entry)) terms,
       );
 }
 
@@ -157,21 +160,22 @@ home_terms home = record { slices = home.slices; size = home.size }
 
 -- one step from these fields is one more entry of the history
 pub grown : (moment : ℕ) (names : List (List ℕ × Named)) (home : HomeView) (old : TenantView) (event : Event) (outcome : Outcome) (new : TenantView) → home_terms home ≡ old.terms → told_state moment names home ≡ old.state
-    → new.terms ≡ home_terms home → IsStep (home_terms home) (told_state moment names home) (entry_from event outcome new.moves) new.state → (h : List Entry) → StandsFor old.terms old.state 0 h → StandsFor new.terms new.state 0 (h ++ entry_from event outcome new.moves ∷ [])
+    → new.terms ≡ home_terms home → IsStep (home_terms home) (told_state moment names home) (entry_from event outcome new.moves) new.state → (h : List Entry) → StandsForHistory old.terms old.state 0 h → StandsForHistory new.terms new.state 0 (h ++ entry_from event outcome new.moves ∷ [])
 grown moment names home old event outcome new same_terms same_state terms step h st =
     let e : Entry = entry_from event outcome new.moves in
-    let before : StandsFor (home_terms home) (told_state moment names home) 0 h = subst (λ (t : Terms). StandsFor t (told_state moment names home) 0 h) (sym same_terms) (subst (λ (s : Option State). StandsFor old.terms s 0 h) (sym same_state) st) in
-    let more : StandsFor (home_terms home) new.state 0 (h ++ e ∷ []) = stands_more (home_terms home) (told_state moment names home) new.state 0 0 h e before (le_refl 0) (le_refl 0) (le_refl 0) step in
-    subst (λ (t : Terms). StandsFor t new.state 0 (h ++ e ∷ [])) (sym terms) more
+    let before : StandsForHistory (home_terms home) (told_state moment names home) 0 h = subst (λ (t : Terms). StandsForHistory t (told_state moment names home) 0 h) (sym same_terms) (subst (λ (s : Option State). StandsForHistory old.terms s 0 h) (sym same_state) st) in
+    let more : StandsForHistory (home_terms home) new.state 0 (h ++ e ∷ []) = stands_more (home_terms home) (told_state moment names home) new.state 0 0 h e before (le_refl 0) (le_refl 0) (le_refl 0) step in
+    subst (λ (t : Terms). StandsForHistory t new.state 0 (h ++ e ∷ [])) (sym terms) more
 
 -- A request of a tenant that has these names and this home, whose moment was taken, and what it leaves.
-module _ (moment : ℕ) (names : List (List ℕ × Named)) (home : HomeView) (v : TenantView) (was : v.state ≡ told_state moment names home) (new : TenantView) (still : IsStill new.moves) (request : Request) (reply : Reply) (fits : frame_bytes reply ≤ most_in_frame) where
+module _ (moment : ℕ) (names : List (List ℕ × Named)) (home : HomeView) (v : TenantView) (was : v.state ≡ told_state moment names home) (new : TenantView) (still : IsStill new.moves) (stays_here : KeepsHolding v new) (request : Request) (reply : Reply) (fits : frame_bytes reply ≤ most_in_frame) where
   abbrev at_hand : State
   at_hand = state_of moment names home
 
   -- a refusal changes nothing
   pub serves_refused : new.state ≡ v.state → refusal at_hand.world request ≡ Some reply → is_excuse reply ≡ false → layout_asked v.terms at_hand.layout request reply ≡ at_hand.layout → Serves v request reply new
   serves_refused same refuses plain stays = record {
+    stays = stays_here;
     answered = fits;
     right = λ at s e.
         let told = told_is moment names home s (sym was ∙ e) in
@@ -182,6 +186,7 @@ module _ (moment : ℕ) (names : List (List ℕ × Named)) (home : HomeView) (v 
   -- and neither does an excuse
   pub serves_excused : new.state ≡ v.state → refusal at_hand.world request ≡ None → is_excuse reply ≡ true → (home.strays ≡ 0 → (e : Entry) → Excuse v.terms at_hand e request reply) → layout_asked v.terms at_hand.layout request reply ≡ at_hand.layout → Serves v request reply new
   serves_excused same refuses plain why stays = record {
+    stays = stays_here;
     answered = fits;
     right = λ at s e.
         let told = told_is moment names home s (sym was ∙ e) in
@@ -193,6 +198,7 @@ module _ (moment : ℕ) (names : List (List ℕ × Named)) (home : HomeView) (v 
   pub serves_done : (w : World) → refusal at_hand.world request ≡ None → is_excuse reply ≡ false → answer at_hand.world request ≡ (w, reply) → spots v.terms at_hand request ≡ []
       → (home.strays ≡ 0 → new.state ≡ Some (record { world = w; purse = home.purse; layout = layout_asked v.terms at_hand.layout request reply })) → Serves v request reply new
   serves_done w refuses plain answers none becomes = record {
+    stays = stays_here;
     answered = fits;
     right = λ at s e.
         let told = told_is moment names home s (sym was ∙ e) in
@@ -201,12 +207,34 @@ module _ (moment : ℕ) (names : List (List ℕ × Named)) (home : HomeView) (v 
   }
 
 -- what a look-up of a name says of the world
-pub node_found : (moment : ℕ) (names : List (List ℕ × Named)) (home : HomeView) (path : List ℕ) (named : Named) → lookup (is_at (bytes_cmp path)) names ≡ Some named → node_at (state_of moment names home).world path ≡ Some (node_of home named)
-node_found moment names home path named e = find-seen_by (node_of home) path names ∙ ap (option_map (node_of home)) e
+pub node_found : (moment : ℕ) (names : List (List ℕ × Named)) (home : HomeView) (path : List ℕ) (named : Named) → lookup (is_at (bytes_cmp path)) names ≡ Some named → node_at (state_of moment names home).world path ≡ Some (named_node home named)
+node_found moment names home path named e = find-seen_by (named_node home) path names ∙ ap (option_map (named_node home)) e
 
 pub node_absent : (moment : ℕ) (names : List (List ℕ × Named)) (home : HomeView) (path : List ℕ) → lookup (is_at (bytes_cmp path)) names ≡ None → node_at (state_of moment names home).world path ≡ None
-node_absent moment names home path e = find-seen_by (node_of home) path names ∙ ap (option_map (node_of home)) e
+node_absent moment names home path e = find-seen_by (named_node home) path names ∙ ap (option_map (named_node home)) e
 
 -- what is noted of moves is no more than the view says
-pub still_in : (i : Inside) {v : TenantView} → view_of i ≡ v → IsStill v.moves → IsStill i.moves
+pub still_in : (i : Inside) {v : TenantView} → tenant_view i ≡ v → IsStill v.moves → IsStill i.moves
 still_in i is still = subst (λ (v : TenantView). IsStill v.moves) (sym is) still
+
+-- what changes of a tenant's fields is in its state and its moves
+pub stays_in : (i : Inside) {v : TenantView} → tenant_view i ≡ v → (state : Option State) (moves : MovesView)
+    → (let was = tenant_view i in let now : TenantView = record was { state = state; moves = moves } in now) ≡ record v { state = state; moves = moves }
+stays_in i is state moves = ap (λ (v : TenantView). record v { state = state; moves = moves }) is
+
+-- also where the home changes, and whose it is, its sizes and its slices stay
+pub stays_with : (i : Inside) {v : TenantView} → tenant_view i ≡ v → (home : HomeView) → home.user ≡ i.home.user → home.size ≡ i.home.size → home.slices ≡ i.home.slices → granted_of home ≡ granted_of i.home → (state : Option State) (moves : MovesView)
+    → ◌≡◌ {A = TenantView} (record { user = home.user; terms = record { slices = home.slices; size = home.size }; state = state; moves = moves; held = granted_of home }) (record v { state = state; moves = moves })
+stays_with i is home user size slices granted state moves =
+    (λ k. record { user = user k; terms = record { slices = slices k; size = size k }; state = state; moves = moves; held = granted k }) ∙ stays_in i is state moves
+
+-- where nothing moved, the moves are in order
+pub still_order : (moves : MovesView) → IsStill moves → AreInOrder moves
+unfolding IsStrictlySortedBy
+still_order moves still = record {
+  freed = subst (λ (l : List (ℕ × ℕ)). IsStrictlySortedBy nat_cmp (keys_of l)) (sym still.freed) tt;
+  placed = subst (λ (l : List PlacedRow). IsStrictlySortedBy nat_cmp (map (λ row. row.slice) l)) (sym still.placed) tt;
+}
+
+pub nothing_moved : (moves : MovesView) (room : ℕ) → moves ≡ no_moves room → AreInOrder moves
+nothing_moved moves room none = subst AreInOrder (sym none) (still_order (no_moves room) (record { freed = refl; placed = refl }))

@@ -1,34 +1,20 @@
 -- Where no block is parked, an append must place its new blocks and no other.
-use Rattle.std.proofs.Common.{◌≡◌, ℕ, zero, suc, add-zero, ◌+◌, ◌-◌, ◌/◌, ◌<◌, ◌≤◌, ◌||◌, not, is_some, Bool, true, false, cond, List, [], ◌∷◌, length, filter, map, get_or, refl, sym, ap, ◌∙◌, inl, inr, arith, Some}
+use Rattle.std.proofs.Common.{◌≡◌, ℕ, zero, suc, add-zero, ◌+◌, ◌-◌, ◌/◌, ◌<◌, ◌≤◌, not, is_some, Bool, true, false, cond, List, [], ◌∷◌, length, filter, map, get_or, refl, ap, ◌∙◌, inl, inr, arith, Some}
 use Rattle.std.specs.declared.option.Option.{Option}
 use Rattle.std.specs.Option.{option_map_or}
 use Rattle.std.specs.Prelude.{All}
 use Rattle.std.specs.Int.{div_ceil}
 use Rattle.std.specs.List.{range_with_len, slice_get}
 use Rattle.std.proofs.lemmas.Bool.{cases_lt}
-use Rattle.std.proofs.lemmas.List.{length-map}
-use Rattle.std.proofs.lemmas.List.FromFn.{length-range_with_len}
-use Rattle.std.proofs.lemmas.Option.{slice_get_past}
 use Rattle.far_words.specs.declared.request.Request.TheVariants.{Append}
-use Rattle.far_words.specs.declared.request.Reply.TheVariants.{Exhausted}
-use Rattle.slice_seq.specs.Purses.{Purse, granted, used, holds, has_block}
-use Rattle.far_history.specs.Worlds.{bytes_at}
-use Rattle.far_history.specs.Layouts.{Kept, block_in}
+use Rattle.slice_seq.specs.Purses.{has_block}
+use Rattle.far_history.specs.Worlds.{bytes_named}
+use Rattle.far_history.specs.Layouts.{KeptAs, kept_block}
 use Rattle.far_history.specs.Histories.{Terms, State}
-use Rattle.far_history.specs.Needs.{touched, is_resident, spots, need, IsKeptWhole}
-use Rattle.far_history.specs.Entries.{Entry}
-use Rattle.far_history.specs.Legal.{Excuse}
-use Rattle.far_history.proofs.Needed.{div_ceil-mono}
+use Rattle.far_history.specs.Needs.{touched, is_resident, spots, IsKeptWhole}
+use Rattle.far_history.proofs.Needed.{unplaced_past, div_ceil-mono}
 use Rattle.block_home.specs.Purses.{place_of}
-
--- a block that has a place is in a slice
-pub has_block-place : (purse : Purse) (block : ℕ) → has_block purse block ≡ is_some (place_of purse block)
-has_block-place [] block = refl
-has_block-place (e ∷ purse) block = by (holds block e.1) (has_block-place purse block)
-  where
-    by : (b : Bool) → has_block purse block ≡ is_some (place_of purse block) → (b || has_block purse block) ≡ is_some (cond b (Some (e.0, e.1.number)) (place_of purse block))
-    by true rest = refl
-    by false rest = rest
+use Rattle.block_home.proofs.Purses.{has_block-place}
 
 -- of numbers in a row, those from a bound on
 filter-above : (p : ℕ → Bool) (bound a n : ℕ) → ((i : ℕ) → i < bound → p i ≡ false) → ((i : ℕ) → bound ≤ i → p i ≡ true) → a ≤ bound → filter p (range_with_len a n) ≡ range_with_len bound (a + n - bound)
@@ -60,15 +46,10 @@ there (b ∷ blocks) (suc i) inside = there blocks i (omega arith)
 module _ (t : Terms) (s : State) (path blocks : List ℕ) (some : 1 ≤ t.size) (whole : IsKeptWhole t s path blocks) (resident : All (λ block. is_some (place_of s.purse block) ≡ true) blocks) where
   placed_before : (i : ℕ) → i < length blocks → is_resident s path i ≡ true
   placed_before i inside =
-      ap (λ (k : Kept). option_map_or (has_block s.purse) (block_in k i) false) whole.kept
+      ap (λ (k : KeptAs). option_map_or (has_block s.purse) (kept_block k i) false) whole.kept
       ∙ ap (λ (o : Option ℕ). option_map_or (has_block s.purse) o false) (there blocks i inside)
       ∙ has_block-place s.purse (get_or blocks i 0)
       ∙ resident i 0 inside
-
-  none_past : (i : ℕ) → length blocks ≤ i → is_resident s path i ≡ false
-  none_past i past =
-      ap (λ (k : Kept). option_map_or (has_block s.purse) (block_in k i) false) whole.kept
-      ∙ ap (λ (o : Option ℕ). option_map_or (has_block s.purse) o false) (slice_get_past blocks i past)
 
   new_indexes : (old more : ℕ) → length blocks ≡ div_ceil old t.size → filter (λ index. not (is_resident s path index)) (touched t.size old more) ≡ range_with_len (length blocks) (div_ceil (old + more) t.size - length blocks)
   new_indexes old zero count = ap (range_with_len (length blocks)) (let none : 0 ≡ div_ceil (old + 0) t.size - length blocks = rw (add-zero old) (omega arith) in none)
@@ -77,20 +58,9 @@ module _ (t : Terms) (s : State) (path blocks : List ℕ) (some : 1 ≤ t.size) 
       let grows = div_ceil-mono t.size old (suc more) some in
       let begins : old / t.size ≤ length blocks = omega arith in
       filter-above p (length blocks) (old / t.size) (div_ceil (old + suc more) t.size - old / t.size)
-      (λ i inside. ap not (placed_before i inside)) (λ i past. ap not (none_past i past)) begins
+      (λ i inside. ap not (placed_before i inside)) (λ i past. ap not (unplaced_past s path blocks i whole.kept past)) begins
       ∙ ap (range_with_len (length blocks)) (let same : old / t.size + (div_ceil (old + suc more) t.size - old / t.size) - length blocks ≡ div_ceil (old + suc more) t.size - length blocks = omega arith in same)
 
   -- the new blocks, in their order
-  pub spots-append : (bytes : List ℕ) → spots t s (Append path bytes) ≡ map (λ i. (path, i)) (range_with_len (length blocks) (div_ceil (length (bytes_at s.world path) + length bytes) t.size - length blocks))
-  spots-append bytes = ap (map (λ i. (path, i))) (new_indexes (length (bytes_at s.world path)) (length bytes) whole.count)
-
-  pub need-append : (bytes : List ℕ) → need t s (Append path bytes) ≡ div_ceil (length (bytes_at s.world path) + length bytes) t.size - length blocks
-  need-append bytes =
-      let count : ℕ = div_ceil (length (bytes_at s.world path) + length bytes) t.size - length blocks in
-      let indexes : List ℕ = range_with_len (length blocks) count in
-      ap length (spots-append bytes) ∙ length-map indexes (λ i. (path, i)) ∙ length-range_with_len (length blocks) count
-
-  -- an append that the home has no room for is excused so
-  pub exhausted-append : (bytes : List ℕ) (e : Entry) (asked in_use in_all room : ℕ) → asked ≡ div_ceil (length (bytes_at s.world path) + length bytes) t.size - length blocks → in_use ≡ used s.purse → in_all ≡ granted s.purse → in_all ≡ in_use + room → room < asked
-      → Excuse t s e (Append path bytes) (Exhausted asked in_use in_all)
-  exhausted-append bytes e asked in_use in_all room need_is used_is granted_is split short = (need_is ∙ sym (need-append bytes), used_is, granted_is, omega arith)
+  pub spots-append : (bytes : List ℕ) → spots t s (Append path bytes) ≡ map (λ i. (path, i)) (range_with_len (length blocks) (div_ceil (length (bytes_named s.world path) + length bytes) t.size - length blocks))
+  spots-append bytes = ap (map (λ i. (path, i))) (new_indexes (length (bytes_named s.world path)) (length bytes) whole.count)

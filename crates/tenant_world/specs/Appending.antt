@@ -6,7 +6,7 @@ use Rattle.std.specs.Map.{keys_of}
 use Rattle.far_words.specs.Moves.{MovesView}
 use Rattle.far_words.specs.declared.request.Reply.{Reply}
 use Rattle.far_words.specs.declared.request.Reply.TheVariants.{Number, Full, Exhausted, NoMemory}
-use Rattle.far_history.specs.Answers.{most_in_file}
+use Rattle.far_words.specs.declared.request.TheConstants.{MOST_IN_FILE}
 use Rattle.block_home.specs.declared.home.HomeEnd.{HomeEnd}
 use Rattle.block_home.specs.declared.home.HomeEnd.TheVariants.{Exhausted as Lacking, NoMemory as Starved}
 use Rattle.block_home.specs.Noted.{no_moves}
@@ -27,11 +27,8 @@ abbrev pub cleared : HomeView → HomeView
 cleared home = record home { moves = no_moves home.moves.most }
 
 -- the file has room for so many bytes more
-abbrev pub Fits : Keeping → List ℕ → Type 0
-Fits old more = old.file.length + length more ≤ most_in_file
-
-abbrev pub need : Keeping → List ℕ → ℕ
-need old more = need_of old.home.size old.file.length (length more)
+abbrev pub HasRoomFor : Keeping → List ℕ → Type 0
+HasRoomFor old more = old.file.length + length more ≤ MOST_IN_FILE
 
 -- nothing changed but what the home notes
 pub record IsKept (old new : Keeping) : Type 0 where
@@ -41,12 +38,11 @@ pub record IsKept (old new : Keeping) : Type 0 where
 
 -- there aren't slices enough, of so many that are held and so many that are used
 pub record Lacks (old : Keeping) (more : List ℕ) (asked used granted : ℕ) : Type 0 where
-  pub asked_is : asked ≡ need old more
+  pub asked_is : asked ≡ need_of old.home old.file (length more)
   pub used_is : used ≡ used_of old.home
   pub granted_is : granted ≡ granted_of old.home
   pub split : granted ≡ used + room_of old.home
   pub short : room_of old.home < asked
-  pub resident : (block : ℕ) → HasBlock old.home block → IsSome (place_of old.home.purse block)
 
 -- the bytes are at the end of the file, in new blocks whose rows are noted
 pub record Grew (old : Keeping) (path more : List ℕ) (number : ℕ) (new : Keeping) : Type 0 where
@@ -58,7 +54,7 @@ pub record Grew (old : Keeping) (path more : List ℕ) (number : ℕ) (new : Kee
   pub alike : IsAlike old.home new.home
   pub moves : new.moves ≡ record old.moves { placed = rows_of path (length old.file.blocks) new.home.moves.placed }
   -- what the home says of itself before
-  pub room : need old more ≤ room_of old.home
+  pub room : need_of old.home old.file (length more) ≤ room_of old.home
   pub resident : (block : ℕ) → HasBlock old.home block → IsSome (place_of old.home.purse block)
   pub ordered : IsStrictlySortedBy nat_cmp (keys_of old.home.purse)
 
@@ -69,8 +65,10 @@ end_reply Starved = NoMemory
 
 -- bytes are put at the end of a file, or there is a cause why not
 abbrev pub IsAppended : Keeping → List ℕ → List ℕ → Reply → Keeping → Type 0
-IsAppended old path more (Number number) new = Fits old more × Grew old path more number new
-IsAppended old path more (Full limit) new = (limit ≡ most_in_file) × (most_in_file < old.file.length + length more) × IsKept old new
-IsAppended old path more (Exhausted asked used granted) new = Fits old more × Lacks old more asked used granted × IsKept old new
-IsAppended old path more NoMemory new = Fits old more × IsKept old new
+IsAppended old path more (Number number) new = HasRoomFor old more × Grew old path more number new
+IsAppended old path more (Full limit) new =
+    (limit ≡ MOST_IN_FILE) × (MOST_IN_FILE < old.file.length + length more) × IsKept old new
+IsAppended old path more (Exhausted asked used granted) new =
+    HasRoomFor old more × Lacks old more asked used granted × IsKept old new
+IsAppended old path more NoMemory new = HasRoomFor old more × IsKept old new
 IsAppended old path more reply new = ⊥

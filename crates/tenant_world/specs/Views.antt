@@ -7,7 +7,7 @@ use Rattle.karma_rule.specs.declared.shape.Shape.{Shape}
 use Rattle.far_words.specs.Moves.{MovesView}
 use Rattle.far_words.specs.declared.request.Outcome.{Outcome}
 use Rattle.far_history.specs.Worlds.{Body, FileBody, Node}
-use Rattle.far_history.specs.Layouts.{Kept, KeptFile}
+use Rattle.far_history.specs.Layouts.{KeptAs, KeptFile}
 use Rattle.far_history.specs.Histories.{Terms, State}
 use Rattle.far_history.specs.Entries.{Event, Ask, Grant, Entry}
 use Rattle.far_history.specs.Plain.{seen_by}
@@ -38,15 +38,15 @@ terms_of shape = record { slices = shape.users * shape.share.fair; size = shape.
 abbrev pub body_of : HomeView → Content → Body
 body_of home (File file) = FileBody (flat_map (bytes_at home) file.blocks)
 
-abbrev pub node_of : HomeView → Named → Node
-node_of home named = record { lease = named.lease; body = body_of home named.content }
+abbrev pub named_node : HomeView → Named → Node
+named_node home named = record { lease = named.lease; body = body_of home named.content }
 
-abbrev pub kept_of : Content → Kept
+abbrev pub kept_of : Content → KeptAs
 kept_of (File file) = KeptFile file.blocks
 
 abbrev pub state_of : ℕ → List (List ℕ × Named) → HomeView → State
 state_of moment names home = record {
-  world = record { moment = moment; names = seen_by (node_of home) names };
+  world = record { moment = moment; names = seen_by (named_node home) names };
   purse = home.purse;
   layout = seen_by (λ named. kept_of named.content) names;
 }
@@ -72,7 +72,8 @@ event_of (Granting slice) = Grant slice.id slice.number slice.size
 
 -- the entry of an event, over no store, of which no call can fail
 abbrev pub entry_from : Event → Outcome → MovesView → Entry
-entry_from event outcome moves = record { event = event; outcome = outcome; freed = moves.freed; placed = moves.placed; before = 0; after = 0 }
+entry_from event outcome moves =
+    record { event = event; outcome = outcome; freed = moves.freed; placed = moves.placed; before = 0; after = 0 }
 
-abbrev pub entry_of : TenantAsk → Told → TenantView → Entry
-entry_of ask told now = entry_from (event_of ask) told.outcome now.moves
+abbrev pub tenant_entry : TenantAsk → Told → TenantView → Entry
+tenant_entry ask told now = entry_from (event_of ask) told.outcome now.moves

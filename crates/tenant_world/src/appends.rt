@@ -1,5 +1,6 @@
 //! Bytes at the end of a file.
 ghost use Rattle.std.specs.Prelude.{◌≡◌, ◌+◌, ◌^◌, ◌<◌, ◌≤◌, ◌++◌, length, vec_len, vec_capacity};
+ghost use Rattle.far_words.specs.declared.request.TheConstants.{MOST_IN_REQUEST};
 ghost use Rattle.block_home.specs.Homes.{room_of};
 ghost use Rattle.block_file.specs.Files.{IsSound};
 ghost use Rattle.tenant_world.specs.Contents.{IsSoundContent, file_of};
@@ -9,12 +10,8 @@ ghost use Rattle.tenant_world.specs.Rows.{rows_of};
 use crate::names::Content;
 use block_file::FileBody;
 use block_home::{Home, HomeEnd, PlacedBlock};
-use far_history::append_need;
-use far_words::{Moves, Path, PlacedRow, Reply};
+use far_words::{MOST_IN_FILE, Moves, Path, PlacedRow, Reply};
 use std::alloc::Global;
-
-/// The most bytes of a file.
-const MOST_IN_FILE: u64 = 1 << 40;
 
 /// What a home or a file refuses, as a reply.
 fn reply_of(end: HomeEnd) -> Reply
@@ -50,8 +47,8 @@ fn push_rows(rows: &mut Vec<PlacedRow>, placed: &[PlacedBlock], path: &Path, fir
     }
 }
 
-/// Puts bytes at the end of a file, and notes the rows of its new blocks. The slices are counted and the rows reserved before
-/// anything is changed.
+/// Puts bytes at the end of a file, and notes the rows of its new blocks. The slices are counted once, and the rows are
+/// reserved before anything is changed.
 fn append_file(
     alloc: Global,
     file: &mut FileBody,
@@ -61,7 +58,7 @@ fn append_file(
     bytes: &[u8],
 ) -> Reply
     requires sound { IsSound home.old file.old }
-    requires short { length bytes.now ≤ 65536 }
+    requires short { length bytes.now ≤ MOST_IN_REQUEST }
     requires noted { room_of home.old ≤ home.old.moves.most }
     ensures { IsAppended (record { file = file.old; home = home.old; moves = moves.old }) path.now bytes.now result
         (record { file = file.new; home = home.new; moves = moves.new }) }
@@ -74,8 +71,7 @@ fn append_file(
             limit: MOST_IN_FILE,
         };
     }
-    // No block is parked, as long as there is no store.
-    let need = append_need(home.size(), old, more, false);
+    let need = file.need(home, more);
     if let Err(end) = home.prepare(need) {
         return reply_of(end);
     }
@@ -103,9 +99,10 @@ pub fn append_content(
     bytes: &[u8],
 ) -> Reply
     requires sound { IsSoundContent home.old content.old }
-    requires short { length bytes.now ≤ 65536 }
+    requires short { length bytes.now ≤ MOST_IN_REQUEST }
     requires noted { room_of home.old ≤ home.old.moves.most }
-    ensures { IsAppended (record { file = file_of content.old; home = home.old; moves = moves.old }) path.now bytes.now result
+    ensures { IsAppended (record { file = file_of content.old; home = home.old; moves = moves.old })
+        path.now bytes.now result
         (record { file = file_of content.new; home = home.new; moves = moves.new }) }
 {
     match content {

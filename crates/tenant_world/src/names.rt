@@ -39,8 +39,8 @@ pub fn read_content(
     len: u32,
 ) -> Result<Blob, HomeEnd>
     requires { IsSoundContent home.old content.old }
-    ensures bytes { IfOk result (λ blob. (file : FileView) (bytes : List ℕ) → content.old ≡ Content.File file → IsFile home.old file bytes
-        → blob ≡ take len (drop from bytes)) }
+    ensures bytes { IfOk result (λ blob. (file : FileView) (bytes : List ℕ) → content.old ≡ Content.File file
+        → IsFile home.old file bytes → blob ≡ take len (drop from bytes)) }
     ensures cause { IsOkUnless result HomeEnd.NoMemory }
     ensures home { home.new ≡ home.old }
     ensures content { content.new ≡ content.old }

@@ -1,27 +1,25 @@
-//! The tenant.
+//! The tenant: what comes to it, and what each request's own function serves.
 ghost use Rattle.std.specs.Prelude.{◌≡◌, ℕ, ◌*◌, ◌^◌, ◌<◌, ◌≤◌, ◌++◌, ◌∷◌, [], List, IfOk, IfSome, IsTrue, Some, None, if◌then◌else◌};
 ghost use Rattle.slice_seq.specs.Purses as Purses;
 ghost use Rattle.karma_rule.specs.Limits.{IsStore};
+ghost use Rattle.far_words.specs.Moves.{AreInOrder};
 ghost use Rattle.far_words.specs.Paths.{parent_of};
 ghost use Rattle.far_words.specs.declared.request.Kind.{Kind};
 ghost use Rattle.far_words.specs.declared.request.Request.TheVariants.{Make, Append, Read, Length};
 ghost use Rattle.far_history.specs.Entries.{Entry};
 ghost use Rattle.far_history.specs.Histories.{State, fits};
-ghost use Rattle.far_history.specs.Standing.{StandsFor};
+ghost use Rattle.far_history.specs.Standing.{StandsForHistory};
 
 use crate::appends::append_content;
 use crate::names::{Content, Named, length_in, read_content};
 use block_file::FileBody;
 use block_home::Home;
-use far_words::{Kind, Moves, Outcome, Path, Reply, Request};
+use far_words::{Kind, MOST_IN_REQUEST, Moves, Outcome, Path, Reply, Request};
 use karma_rule::Shape;
 use slice_seq::Slice;
 use std::alloc::{AllocError, Global};
 use std::collections::BTreeMap;
 use std::marker::Model;
-
-/// The most bytes that a request appends or reads.
-const MOST_IN_REQUEST: u64 = 65_536;
 
 /// What comes to a tenant.
 pub enum TenantAsk {
@@ -40,7 +38,6 @@ pub struct Told {
 /// One user's names, leases and contents, and the slices that keep the contents.
 ///
 /// Dropping it gives the memory of its slices back.
-#[derive(Drop)]
 pub struct Tenant {
     alloc: Global,
     moment: u64,
@@ -54,11 +51,25 @@ impl Model for Tenant {
 
     ghost Value = { TenantView };
 
-    ghost use Rattle.tenant_world.specs.Well.{IsWell, view_of};
+    ghost use Rattle.tenant_world.specs.Well.{IsWellTenant, tenant_view};
 
-    ghost view = { view_of };
+    ghost view = { tenant_view };
 
-    ghost invariant = { IsWell };
+    ghost invariant = { IsWellTenant };
+}
+
+impl Drop for Tenant {
+    /// Ends the home, which gives the memory of all slices back.
+    fn drop(self) {
+        // By hand, since a derived drop is proved anew in each crate above, field by field.
+        let Tenant {
+            alloc: _,
+            moment: _,
+            names: _,
+            home: _,
+            moves: _,
+        } = self;
+    }
 }
 
 /// A slice that isn't taken in.
@@ -89,15 +100,15 @@ fn granted_number(slice: &Slice) -> u64
 
 impl Tenant {
     ghost use Rattle.tenant_world.specs.Views;
-    ghost use Rattle.tenant_world.specs.Views.{entry_of, event_of, hands_back, held_after, terms_of};
-    ghost use Rattle.tenant_world.specs.Serves.{IsAsked, IsGranted, IsStill, Serves};
+    ghost use Rattle.tenant_world.specs.Views.{tenant_entry, event_of, hands_back, held_after, terms_of};
+    ghost use Rattle.tenant_world.specs.Serves.{IsAskStep, IsGrantStep, IsSameUser, IsStill, KeepsHolding, Serves};
 
     /// No name and no slice, with room for as many slices as a user may hold.
     pub fn new(alloc: Global, user: u32, shape: Shape) -> Result<Tenant, AllocError>
         requires within { IsStore shape }
         ensures user { IfOk result (λ tenant. tenant.user ≡ user) }
         ensures terms { IfOk result (λ tenant. tenant.terms ≡ terms_of shape) }
-        ensures stands { IfOk result (λ tenant. StandsFor tenant.terms tenant.state 0 []) }
+        ensures stands { IfOk result (λ tenant. StandsForHistory tenant.terms tenant.state 0 []) }
         ensures held { IfOk result (λ tenant. tenant.held ≡ 0) }
     {
         let slices = u64::from(shape.users) * shape.share.fair;
@@ -113,18 +124,20 @@ impl Tenant {
 
     /// One event. The history that the tenant stands for grows by its entry, whatever the event is answered.
     ///
-    /// So each answer is the one that plain names and contents give, or is excused, and after a refusal names, leases and contents are
-    /// as before.
+    /// So each answer is the one that plain names and contents give, or is excused, and after a refusal names, leases and
+    /// contents are as before.
     pub fn apply(&mut self, ask: TenantAsk) -> Told
         ensures user { self.new.user ≡ self.old.user }
         ensures terms { self.new.terms ≡ self.old.terms }
-        ensures stands { (h : List Entry) → StandsFor self.old.terms self.old.state 0 h
-            → StandsFor self.new.terms self.new.state 0 (h ++ entry_of ask result self.new ∷ []) }
+        ensures stands { (h : List Entry) → StandsForHistory self.old.terms self.old.state 0 h
+            → StandsForHistory self.new.terms self.new.state 0 (h ++ tenant_entry ask result self.new ∷ []) }
 
-        // A slice is handed back where it is of another size, or where every slice of the terms is held, and never where it fits.
+        // A slice is handed back where it is of another size, or where every slice of the terms is held, and never where
+        // it fits.
         ensures slice { result.slice ≡ Views.handed_back self.old ask }
         ensures back { IfSome result.slice (λ slice. result.outcome ≡ Outcome.Granted slice.id slice.number) }
-        ensures fitting { (s : State) → self.old.state ≡ Some s → IsTrue (fits self.old.terms s (event_of ask)) → result.slice ≡ None }
+        ensures fitting { (s : State) → self.old.state ≡ Some s → IsTrue (fits self.old.terms s (event_of ask))
+            → result.slice ≡ None }
         ensures held { self.new.held ≡ held_after self.old ask }
     {
         self.moves.clear();
@@ -137,9 +150,10 @@ impl Tenant {
         }
     }
 
-    /// The moves of the last event.
+    /// The moves of the last event, in the order of their slices' ids.
     pub fn moves(&self) -> &Moves
-        ensures { result.now ≡ self.now.moves }
+        ensures moves { result.now ≡ self.now.moves }
+        ensures order { AreInOrder result.now }
     {
         &self.moves
     }
@@ -155,12 +169,12 @@ impl Tenant {
     /// Takes a slice in, or hands it back.
     fn grant(&mut self, slice: Slice) -> Told
         requires { IsStill self.old.moves }
-        ensures step { IsGranted self.old slice result.outcome self.new }
-        ensures user { self.new.user ≡ self.old.user }
-        ensures terms { self.new.terms ≡ self.old.terms }
+        ensures step { IsGrantStep self.old slice result.outcome self.new }
+        ensures stays { IsSameUser self.old self.new }
         ensures slice { result.slice ≡ (if hands_back self.old slice then Some slice else None) }
         ensures back { IfSome result.slice (λ slice. result.outcome ≡ Outcome.Granted slice.id slice.number) }
-        ensures fitting { (s : State) → self.old.state ≡ Some s → IsTrue (fits self.old.terms s (event_of (TenantAsk.Grant slice))) → result.slice ≡ None }
+        ensures fitting { (s : State) → self.old.state ≡ Some s
+            → IsTrue (fits self.old.terms s (event_of (TenantAsk.Grant slice))) → result.slice ≡ None }
         ensures held { self.new.held ≡ held_after self.old (TenantAsk.Grant slice) }
     {
         if slice.size() != self.home.size() {
@@ -181,21 +195,17 @@ impl Tenant {
     /// A request at a moment.
     fn ask(&mut self, moment: u64, request: Request) -> Reply
         requires { IsStill self.old.moves }
-        ensures step { IsAsked self.old moment request result self.new }
-        ensures user { self.new.user ≡ self.old.user }
-        ensures terms { self.new.terms ≡ self.old.terms }
-        ensures held { self.new.held ≡ self.old.held }
+        ensures step { IsAskStep self.old moment request result self.new }
+        ensures stays { KeepsHolding self.old self.new }
     {
         self.moment = self.moment.max(moment);
         self.serve(request)
     }
 
+    /// A request whose moment was taken.
     fn serve(&mut self, request: Request) -> Reply
         requires { IsStill self.old.moves }
-        ensures served { Serves self.old request result self.new }
-        ensures user { self.new.user ≡ self.old.user }
-        ensures terms { self.new.terms ≡ self.old.terms }
-        ensures held { self.new.held ≡ self.old.held }
+        ensures { Serves self.old request result self.new }
     {
         match request {
             Request::Make { path, kind, span } => self.make(path, kind, span),
@@ -208,10 +218,7 @@ impl Tenant {
     /// A name is made at the top: under another name there is no place for it, as long as no name is a directory.
     fn make(&mut self, path: Path, kind: Kind, span: u64) -> Reply
         requires { IsStill self.old.moves }
-        ensures served { Serves self.old (Make path kind span) result self.new }
-        ensures user { self.new.user ≡ self.old.user }
-        ensures terms { self.new.terms ≡ self.old.terms }
-        ensures held { self.new.held ≡ self.old.held }
+        ensures { Serves self.old (Make path kind span) result self.new }
     {
         match path.parent() {
             Some(parent) => self.refuse_under(&parent),
@@ -219,9 +226,11 @@ impl Tenant {
         }
     }
 
+    /// Why a name can't be made under a parent. No name is a directory as yet.
     fn refuse_under(&self, parent: &Path) -> Reply
         requires { IsStill self.now.moves }
-        ensures { (path : List ℕ) (kind : Kind) (span : ℕ) → parent_of path ≡ Some parent.now → Serves self.now (Make path kind span) result self.now }
+        ensures { (path : List ℕ) (kind : Kind) (span : ℕ) → parent_of path ≡ Some parent.now
+            → Serves self.now (Make path kind span) result self.now }
     {
         match self.names.get(parent) {
             Some(_) => Reply::WrongKind,
@@ -229,13 +238,11 @@ impl Tenant {
         }
     }
 
+    /// A name at the top is made, without bytes. After NoMemory nothing has changed.
     fn make_top(&mut self, path: Path, kind: Kind, span: u64) -> Reply
         requires still { IsStill self.old.moves }
         requires top { parent_of path ≡ None }
-        ensures served { Serves self.old (Make path kind span) result self.new }
-        ensures user { self.new.user ≡ self.old.user }
-        ensures terms { self.new.terms ≡ self.old.terms }
-        ensures held { self.new.held ≡ self.old.held }
+        ensures { Serves self.old (Make path kind span) result self.new }
     {
         if self.names.contains_key(&path) {
             return Reply::Exists;
@@ -250,12 +257,10 @@ impl Tenant {
         }
     }
 
+    /// Bytes are put at the end of a file.
     fn append(&mut self, path: &Path, bytes: &[u8]) -> Reply
         requires { IsStill self.old.moves }
-        ensures served { Serves self.old (Append path.now bytes.now) result self.new }
-        ensures user { self.new.user ≡ self.old.user }
-        ensures terms { self.new.terms ≡ self.old.terms }
-        ensures held { self.new.held ≡ self.old.held }
+        ensures { Serves self.old (Append path.now bytes.now) result self.new }
     {
         if bytes.len() as u64 > MOST_IN_REQUEST {
             return Reply::TooLong {
@@ -275,12 +280,10 @@ impl Tenant {
         )
     }
 
+    /// A file's bytes from `from` on, at most `len` of them.
     fn read(&mut self, path: &Path, from: u64, len: u32) -> Reply
         requires { IsStill self.old.moves }
-        ensures served { Serves self.old (Read path.now from len) result self.new }
-        ensures user { self.new.user ≡ self.old.user }
-        ensures terms { self.new.terms ≡ self.old.terms }
-        ensures held { self.new.held ≡ self.old.held }
+        ensures { Serves self.old (Read path.now from len) result self.new }
     {
         if u64::from(len) > MOST_IN_REQUEST {
             return Reply::TooLong {
@@ -296,6 +299,7 @@ impl Tenant {
         }
     }
 
+    /// How many bytes a file has.
     fn length(&self, path: &Path) -> Reply
         requires { IsStill self.now.moves }
         ensures { Serves self.now (Length path.now) result self.now }

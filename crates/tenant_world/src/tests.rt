@@ -1,3 +1,4 @@
+//! A tenant from event to event: the rules' examples, and beside a plain world.
 ghost use Rattle.std.specs.Prelude.{◌≤◌, ◌<◌, ◌^◌};
 
 use super::{Tenant, TenantAsk, Told};
@@ -92,6 +93,27 @@ fn row(rt: &impl Abort, slice: u32, index: u64) -> PlacedRow {
     }
 }
 
+/// Asks at moment 5, and compares the reply and the rows of the blocks that were placed.
+fn expect(
+    rt: &impl Abort,
+    tenant: &mut Tenant,
+    request: Request,
+    reply: Reply,
+    rows: &[PlacedRow],
+) {
+    let told = ask(rt, tenant, 5, request);
+    assert_eq!(rt; told, reply);
+    assert!(rt; tenant.moves().placed() == rows);
+}
+
+fn exhausted(need: u64, used: u64, granted: u64) -> Reply {
+    Reply::Exhausted {
+        need,
+        used,
+        granted,
+    }
+}
+
 #[test]
 fn a_file_lies_in_slices(rt: HostRuntime) {
     let alloc = rt.alloc();
@@ -100,52 +122,43 @@ fn a_file_lies_in_slices(rt: HostRuntime) {
         assert!(rt; !grant(&rt, alloc, &mut tenant, id, 64, 1));
     }
     assert!(rt; grant(&rt, alloc, &mut tenant, 3, 32, 0));
-    let reply = ask(&rt, &mut tenant, 0, make(&rt, b"f", 100));
-    assert_eq!(rt; reply, Reply::Done);
-    let reply = ask(&rt, &mut tenant, 0, append(&rt, alloc, b"f", b'a', 64));
-    assert_eq!(rt; reply, Reply::Number(64));
-    assert!(rt; tenant.moves().placed() == [row(&rt, 0, 0)].as_slice());
-    let reply = ask(&rt, &mut tenant, 0, append(&rt, alloc, b"f", b'c', 0));
-    assert_eq!(rt; reply, Reply::Number(64));
-    assert!(rt; tenant.moves().placed().is_empty());
-    let reply = ask(&rt, &mut tenant, 0, append(&rt, alloc, b"f", b'b', 65));
-    assert_eq!(rt; reply, Reply::Number(129));
-    assert!(rt; tenant.moves().placed() == [row(&rt, 1, 1), row(&rt, 2, 2)].as_slice());
-    let reply = ask(&rt, &mut tenant, 0, read(&rt, b"f", 128, 10));
+    expect(&rt, &mut tenant, make(&rt, b"f", 100), Reply::Done, &[]);
+    let first = append(&rt, alloc, b"f", b'a', 64);
+    expect(
+        &rt,
+        &mut tenant,
+        first,
+        Reply::Number(64),
+        &[row(&rt, 0, 0)],
+    );
+    let rest = append(&rt, alloc, b"f", b'b', 65);
+    let rows = [row(&rt, 1, 1), row(&rt, 2, 2)];
+    expect(&rt, &mut tenant, rest, Reply::Number(129), &rows);
     let bytes = Blob::from_slice(alloc, b"b").expect(&rt, "memory for a byte");
-    assert_eq!(rt; reply, Reply::Bytes(bytes));
-    assert!(rt; tenant.moves().placed().is_empty());
-    let reply = ask(&rt, &mut tenant, 0, length(&rt, b"f"));
-    assert_eq!(rt; reply, Reply::Number(129));
-    let reply = ask(&rt, &mut tenant, 0, append(&rt, alloc, b"f", b'c', 64));
-    let exhausted = Reply::Exhausted {
-        need: 1,
-        used: 3,
-        granted: 3,
-    };
-    assert_eq!(rt; reply, exhausted);
-    assert_eq!(rt; tenant.held(), 3);
+    expect(
+        &rt,
+        &mut tenant,
+        read(&rt, b"f", 128, 10),
+        Reply::Bytes(bytes),
+        &[],
+    );
+    expect(&rt, &mut tenant, length(&rt, b"f"), Reply::Number(129), &[]);
+    let more = append(&rt, alloc, b"f", b'c', 64);
+    expect(&rt, &mut tenant, more, exhausted(1, 3, 3), &[]);
 }
 
-/// Appends so many bytes, and compares the reply.
+/// Appends so many bytes, and compares the reply. So many blocks were placed.
 fn grow(
     rt: &impl Abort,
     alloc: Global,
     tenant: &mut Tenant,
     name: &[u8],
     count: usize,
-    expected: Reply,
+    told: (Reply, usize),
 ) {
     let reply = ask(rt, tenant, 5, append(rt, alloc, name, 7, count));
-    assert_eq!(rt; reply, expected);
-}
-
-fn exhausted(need: u64, used: u64) -> Reply {
-    Reply::Exhausted {
-        need,
-        used,
-        granted: 2,
-    }
+    assert_eq!(rt; reply, told.0);
+    assert_eq!(rt; tenant.moves().placed().len(), told.1);
 }
 
 /// Two slices of 64 bytes: what needs a third one is refused, and what goes into a last block isn't.
@@ -156,18 +169,21 @@ fn slices_run_out(rt: HostRuntime) {
     assert!(rt; !grant(&rt, alloc, &mut tenant, 1, 64, 1));
     assert!(rt; !grant(&rt, alloc, &mut tenant, 0, 64, 1));
     assert!(rt; grant(&rt, alloc, &mut tenant, 1, 64, 0));
-    let reply = ask(&rt, &mut tenant, 5, make(&rt, b"f", 9));
-    assert_eq!(rt; reply, Reply::Done);
-    let reply = ask(&rt, &mut tenant, 5, make(&rt, b"g", 9));
-    assert_eq!(rt; reply, Reply::Done);
-    grow(&rt, alloc, &mut tenant, b"f", 10, Reply::Number(10));
-    grow(&rt, alloc, &mut tenant, b"f", 54, Reply::Number(64));
-    grow(&rt, alloc, &mut tenant, b"f", 65, exhausted(2, 1));
-    grow(&rt, alloc, &mut tenant, b"f", 1, Reply::Number(65));
-    grow(&rt, alloc, &mut tenant, b"g", 129, exhausted(3, 2));
-    grow(&rt, alloc, &mut tenant, b"f", 63, Reply::Number(128));
-    grow(&rt, alloc, &mut tenant, b"f", 1, exhausted(1, 2));
-    grow(&rt, alloc, &mut tenant, b"g", 0, Reply::Number(0));
+    for name in [b"f", b"g"] {
+        expect(&rt, &mut tenant, make(&rt, name, 9), Reply::Done, &[]);
+    }
+    for (name, count, reply, placed) in [
+        (b"f", 10, Reply::Number(10), 1),
+        (b"f", 54, Reply::Number(64), 0),
+        (b"f", 65, exhausted(2, 1, 2), 0),
+        (b"f", 1, Reply::Number(65), 1),
+        (b"g", 129, exhausted(3, 2, 2), 0),
+        (b"f", 63, Reply::Number(128), 0),
+        (b"f", 1, exhausted(1, 2, 2), 0),
+        (b"g", 0, Reply::Number(0), 0),
+    ] {
+        grow(&rt, alloc, &mut tenant, name, count, (reply, placed));
+    }
 }
 
 /// The next of a row of numbers that look random.

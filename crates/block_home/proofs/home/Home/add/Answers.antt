@@ -12,7 +12,7 @@ use Rattle.block_home.specs.declared.cell.Cell.{Cell}
 use Rattle.block_home.specs.declared.cell.Cell.TheVariants.{Vacant, Resident}
 use Rattle.slice_seq.specs.Purses.{Held, Purse, holding, open_slices}
 use Rattle.block_home.specs.Purses.{next_place, place_of}
-use Rattle.block_home.specs.Noted.{MovesView, noting_placed}
+use Rattle.block_home.specs.Noted.{NotedView, noting_placed}
 use Rattle.block_home.specs.Seats.{blocks_of, purse_of, strays_of, slice_in, slice_of, is_open, is_empty, is_vacant, is_stray}
 use Rattle.block_home.specs.Homes.{HomeView, IsNewNumber}
 use Rattle.block_home.specs.Well.{AreTables}
@@ -91,7 +91,7 @@ invariant_of-self c =
       empty_are = flags_same is_empty home.empty_seats home.seats.items c.begin_use-used.new.seats.items id (Busy block (slice.number + 1)) Empty c.self.invariant.empty_are c.begin_use-used.ensures.seats
           (sym (ap is_empty (idle_is (get_or home.seats.items id Empty) opened)));
       vacant_are = c.remove-2.ensures.members ∙ flags-set is_vacant home.vacant_cells home.cells.items c.put_cell.new.cells.items block (Resident used) false c.self.invariant.vacant_are (cells_are c) refl;
-      most = ap (λ (m : MovesView). m.most) c.note_placed.ensures ∙ c.self.invariant.most;
+      most = ap (λ (m : NotedView). m.most) c.note_placed.ensures ∙ c.self.invariant.most;
     }
 
 pub returns-clause-places : goal.returns-clause-places
@@ -175,7 +175,7 @@ returns-clause-moves c =
     let number : c.number-number.result ≡ slice.number + 1 = c.number-number.ensures.value ∙ ap (λ (u : UsedView). u.number) c.begin_use-used.ensures.used in
     c.note_placed.ensures
     ∙ ap (λ (n : ℕ). noting_placed home.moves (Some (id, n)) c.from-block.result) number
-    ∙ ap (λ (m : MovesView). noting_placed m (Some (id, slice.number + 1)) c.from-block.result) (ap (λ (w : HomeView). w.moves) c.self.view_is)
+    ∙ ap (λ (m : NotedView). noting_placed m (Some (id, slice.number + 1)) c.from-block.result) (ap (λ (w : HomeView). w.moves) c.self.view_is)
     ∙ ap (λ (o : Option (ℕ × ℕ)). noting_placed c.args.self.now.moves o c.from-block.result) (sym (open_next home _ c.self.view_is c.self.invariant id first))
 
 pub returns-clause-rest : goal.returns-clause-rest

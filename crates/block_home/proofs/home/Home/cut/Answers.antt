@@ -12,7 +12,7 @@ use Rattle.block_home.specs.declared.cell.Cell.TheVariants.{Vacant, Resident}
 use Rattle.block_home.specs.Tables.{without}
 use Rattle.slice_seq.specs.Purses.{Held, Purse, holding, is_worn, open_slices}
 use Rattle.block_home.specs.Purses.{place_of}
-use Rattle.block_home.specs.Noted.{MovesView, noting_freed}
+use Rattle.block_home.specs.Noted.{NotedView, noting_freed}
 use Rattle.block_home.specs.Seats.{blocks_of, purse_of, strays_of, used_in, slice_of, is_open, is_empty, is_vacant, is_stray, is_bare}
 use Rattle.block_home.specs.Homes.{HomeView}
 use Rattle.block_home.specs.Well.{AreTables}
@@ -97,7 +97,7 @@ invariant_of-self c =
           ∙ flags-set is_open home.open_seats home.seats.items c.put_seat.new.seats.items used.id (Idle slice) (is_open (Idle slice)) c.self.invariant.open_are (seats_are c) refl;
       empty_are = flags_same is_empty home.empty_seats home.seats.items c.put_seat.new.seats.items used.id (Idle slice) Empty c.self.invariant.empty_are (seats_are c) (sym (ap is_empty seat));
       vacant_are = c.insert.ensures.members ∙ flags-set is_vacant home.vacant_cells home.cells.items c.end_use-freed.new.cells.items c.args.block Vacant true c.self.invariant.vacant_are c.end_use-freed.ensures.cells refl;
-      most = ap (λ (m : MovesView). m.most) c.note_freed.ensures ∙ c.self.invariant.most;
+      most = ap (λ (m : NotedView). m.most) c.note_freed.ensures ∙ c.self.invariant.most;
     }
 
 pub returns-clause-blocks : goal.returns-clause-blocks
@@ -159,7 +159,7 @@ returns-clause-moves c =
     c.note_freed.ensures
     ∙ ap (λ (n : ℕ). noting_freed home.moves (Some (n, c.number.result))) id
     ∙ ap (λ (n : ℕ). noting_freed home.moves (Some (used.id, n))) number
-    ∙ ap (λ (m : MovesView). noting_freed m (Some (used.id, used.number))) (ap (λ (w : HomeView). w.moves) c.self.view_is)
+    ∙ ap (λ (m : NotedView). noting_freed m (Some (used.id, used.number))) (ap (λ (w : HomeView). w.moves) c.self.view_is)
     ∙ ap (λ (o : Option (ℕ × ℕ)). noting_freed c.args.self.now.moves o) (sym (cut_place home _ c.self.view_is c.self.invariant c.args.block c.requires))
 
 pub returns-clause-rest : goal.returns-clause-rest

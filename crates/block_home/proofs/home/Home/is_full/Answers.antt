@@ -1,12 +1,9 @@
 use Rattle.std.proofs.Common.{◌≡◌, ◌+◌, ◌<◌, ◌≤◌, ℕ, Bool, List, true, false, cond, length, map, get_or, refl, sym, ap, subst, ◌∙◌, arith}
 use Rattle.std.proofs.lemmas.Bool.Decides.{nat_tests}
 use Rattle.std.proofs.lemmas.List.Sums.{get_or-le-sum_by}
-use Rattle.std.specs.Bool.{IsTrue}
 use Rattle.id_set.specs.IdSet as set
-use Rattle.block_home.specs.declared.home.Home.TheInside.{Inside}
 use Rattle.block_home.specs.Seats.{is_empty, purse_of, strays_of}
 use Rattle.block_home.specs.Homes.{HomeView, granted_of}
-use Rattle.block_home.specs.Well.{view_of, IsWell}
 use Rattle.block_home.proofs.Seats.{length-purse, within_by}
 use Rattle.block_home.proofs.Views.{cannot_hold}
 use Rattle.block_home.proofs.home.Home.is_full.Goals as goal

@@ -3,7 +3,7 @@ use Rattle.block_home.specs.declared.seat.Seat.{Seat}
 use Rattle.block_home.specs.declared.seat.Seat.TheVariants.{Empty}
 use Rattle.block_home.specs.declared.cell.Cell.{Cell}
 use Rattle.block_home.specs.declared.cell.Cell.TheVariants.{Vacant}
-use Rattle.block_home.specs.Noted.{MovesView}
+use Rattle.block_home.specs.Noted.{NotedView}
 use Rattle.block_home.specs.Seats.{blocks_of, purse_of, strays_of, is_open, is_empty, is_vacant}
 use Rattle.block_home.specs.Well.{AreTables}
 use Rattle.block_home.proofs.New.{map-replicate, new_tables, new_blocks, new_purse, new_strays}
@@ -21,7 +21,7 @@ invariant_of-result c =
       open_are = c.in_ok-open_seats.ensures ∙ sym (ap (λ (xs : List Seat). map is_open xs) c.in_ok-seats.ensures.seats ∙ map-replicate is_open n Empty);
       empty_are = c.in_ok-empty_seats.ensures ∙ sym (ap (λ (xs : List Seat). map is_empty xs) c.in_ok-seats.ensures.seats ∙ map-replicate is_empty n Empty);
       vacant_are = c.in_ok-vacant_cells.ensures ∙ sym (ap (λ (ys : List Cell). map is_vacant ys) c.in_ok-seats.ensures.cells ∙ map-replicate is_vacant n Vacant);
-      most = ap (λ (m : MovesView). m.most) c.in_ok-moves.ensures;
+      most = ap (λ (m : NotedView). m.most) c.in_ok-moves.ensures;
     }
 
 pub returns : goal.returns

@@ -1,6 +1,6 @@
 use Rattle.std.proofs.Common.{◌*◌, [], List, reverse, sym, subst, ap, ◌∙◌}
 use Rattle.far_history.specs.Entries.{Entry}
-use Rattle.far_history.specs.Standing.{StandsFor}
+use Rattle.far_history.specs.Standing.{StandsForHistory}
 use Rattle.far_core.specs.Runs.{fresh_pool}
 use Rattle.far_core.specs.Cores.{sized}
 use Rattle.far_core.proofs.Fresh.{all_alike}
@@ -17,5 +17,5 @@ returns-clause-stands c =
       pool = c.in_ok-slices.ensures.pool ∙ ap (λ users. sized shape.slice (fresh_pool (users * shape.share.fair))) c.from.ensures;
       hand = ap reverse c.in_ok-slices.ensures.hand;
       terms = c.in_ok-tenant.ensures.terms;
-      tenant = subst (StandsFor tenant.terms tenant.state 0) (sym (all_alike shape.users 0 nothing)) c.in_ok-tenant.ensures.stands;
+      tenant = subst (StandsForHistory tenant.terms tenant.state 0) (sym (all_alike shape.users 0 nothing)) c.in_ok-tenant.ensures.stands;
     }

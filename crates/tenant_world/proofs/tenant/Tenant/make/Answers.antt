@@ -1,5 +1,5 @@
 use Rattle.std.proofs.Common.{sym}
 use Rattle.tenant_world.proofs.tenant.Tenant.make.Goals as goal
 
-pub returns-in-Some-clause-served : goal.returns-in-Some-clause-served
-returns-in-Some-clause-served c = c.refuse_under.ensures c.args.path c.args.kind c.args.span (sym c.in-Some.ensures)
+pub returns-in-Some : goal.returns-in-Some
+returns-in-Some c = c.refuse_under.ensures c.args.path c.args.kind c.args.span (sym c.in-Some.ensures)

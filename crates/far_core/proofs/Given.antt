@@ -1,0 +1,58 @@
+-- A slice that goes from the hand to the tenant.
+use Rattle.std.proofs.Common.{◌≡◌, Bool, true, false, cond, IsTrue, List, [], ◌∷◌, ◌++◌, reverse, refl, sym, ap, subst, ◌∙◌, Some, None}
+use Rattle.std.specs.declared.option.Option.{Option}
+use Rattle.std.specs.Option.{option_to_list}
+use Rattle.std.proofs.lemmas.List.{reverse-append}
+use Rattle.slice_seq.specs.Slice.{SliceView}
+use Rattle.far_words.specs.declared.request.Outcome.{Outcome}
+use Rattle.far_history.specs.Entries.{Grant}
+use Rattle.far_history.specs.Histories.{State, fits}
+use Rattle.tenant_world.specs.Views.{hands_back}
+use Rattle.far_core.specs.Cores.{CoreView, GrowsTenant, Gives}
+
+-- the slice that was last is on top of the hand
+pub top_of : (items rest : List SliceView) (popped : Option SliceView) (slice : SliceView) → items ≡ rest ++ option_to_list popped → popped ≡ Some slice → reverse items ≡ slice ∷ reverse rest
+top_of items rest popped slice is some =
+    ap reverse is ∙ ap (λ (o : Option SliceView). reverse (rest ++ option_to_list o)) some ∙ reverse-append rest (slice ∷ [])
+
+handed : (b : Bool) (o : Option SliceView) (slice back : SliceView) → o ≡ cond b (Some slice) None → o ≡ Some back → (b ≡ true) × (back ≡ slice)
+handed true o slice back is some = (refl, (let same : Some back ≡ Some slice = sym some ∙ is in cc))
+handed false o slice back is some = cc
+
+kept : (b : Bool) (o : Option SliceView) (slice : SliceView) → o ≡ cond b (Some slice) None → o ≡ None → b ≡ false
+kept true o slice is none = cc
+kept false o slice is none = refl
+
+-- the core whose hand has this slice on top, and what the tenant did with it
+module _ (old new : CoreView) (slice : SliceView) (rest : List SliceView) (outcome : Outcome) (back : Option SliceView)
+    (serves : GrowsTenant old (Grant slice.id slice.number slice.size) outcome new)
+    (told : back ≡ cond (hands_back old.tenant slice) (Some slice) None)
+    (fitting : (s : State) → old.tenant.state ≡ Some s → IsTrue (fits old.tenant.terms s (Grant slice.id slice.number slice.size)) → back ≡ None)
+    (others : new ≡ record old { hand = new.hand; tenant = new.tenant; moves = new.moves }) where
+  pub gives_back : (slice' : SliceView) → back ≡ Some slice' → new.hand ≡ slice' ∷ rest → Gives old slice rest outcome new
+  gives_back slice' some hand =
+      let both = handed (hands_back old.tenant slice) back slice slice' told some in
+      record {
+        serves = serves;
+        back = hand ∙ ap (λ (x : SliceView). x ∷ rest) both.1 ∙ ap (λ b. cond b (slice ∷ rest) rest) (sym both.0);
+        kept = λ s is fit. let none = fitting s is fit in cc;
+        rest = others;
+      }
+
+  pub gives_away : back ≡ None → new.hand ≡ rest → Gives old slice rest outcome new
+  gives_away none hand = record {
+    serves = serves;
+    back = hand ∙ ap (λ b. cond b (slice ∷ rest) rest) (sym (kept (hands_back old.tenant slice) back slice told none));
+    kept = λ s is fit. hand;
+    rest = others;
+  }
+
+-- so it is for the slice that a core's view has on top
+pub gives_seen : (seen old new : CoreView) (slice : SliceView) (rest : List SliceView) (outcome : Outcome) → seen ≡ old → seen.hand ≡ slice ∷ rest → Gives seen slice rest outcome new
+    → (top : SliceView) (hand : List SliceView) → old.hand ≡ top ∷ hand → Gives old top hand outcome new
+gives_seen seen old new slice rest outcome is has gives top hand now =
+    let both : slice ∷ rest ≡ top ∷ hand = sym has ∙ ap (λ (v : CoreView). v.hand) is ∙ now in
+    let one : slice ≡ top = cc in
+    let others : rest ≡ hand = cc in
+    subst (λ (v : CoreView). Gives v top hand outcome new) is
+    (subst (λ (x : SliceView). Gives seen x hand outcome new) one (subst (λ (l : List SliceView). Gives seen slice l outcome new) others gives))

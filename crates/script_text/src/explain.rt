@@ -1,0 +1,88 @@
+//! What is wrong with a line of a script, for a person to read. No contract speaks of it: what a line is, `parse_line` says.
+
+use far_io::{parse_decimal, split_word};
+use far_words::Path;
+use run_end::LineFault;
+
+/// What a word of a line has to be.
+#[derive(Clone, Copy, Debug, PartialEq, Eq)]
+enum Field {
+    /// A decimal of at most so much.
+    Number(u64),
+    /// A name.
+    Path,
+    /// The word of a kind.
+    Kind,
+    /// An escaped text.
+    Escape,
+}
+
+const USER: Field = Field::Number(u32::MAX as u64);
+
+const NUMBER: Field = Field::Number(u64::MAX);
+
+/// What the words after the first one have to be, None where no line begins with this word.
+fn fields_after(first: &[u8]) -> Option<&'static [Field]> {
+    match first {
+        b"draw" => Some(&[]),
+        b"grant" => Some(&[USER]),
+        b"make" => Some(&[USER, Field::Path, Field::Kind, NUMBER]),
+        b"append" => Some(&[USER, Field::Path, Field::Escape]),
+        b"read" => Some(&[USER, Field::Path, NUMBER, USER]),
+        b"length" => Some(&[USER, Field::Path]),
+        _ => None,
+    }
+}
+
+/// How many words a text has.
+fn count_words(text: &[u8]) -> u64 {
+    let spaces = text.iter().filter(|byte| **byte == b' ').count();
+    (spaces as u64).saturating_add(1)
+}
+
+/// What is wrong with a word, where it isn't what it has to be. An escaped text isn't looked at.
+fn fault_of(field: Field, word: &[u8], place: u64) -> Option<LineFault> {
+    match field {
+        Field::Number(limit) => match parse_decimal(word) {
+            None => Some(LineFault::NoDecimal { word: place }),
+            Some(number) if number > limit => Some(LineFault::AboveLimit { word: place, limit }),
+            Some(_) => None,
+        },
+        Field::Path => match Path::parse(word) {
+            None => Some(LineFault::NoPath { word: place }),
+            Some(_) => None,
+        },
+        Field::Kind => match word {
+            b"file" => None,
+            _ => Some(LineFault::NoKind { word: place }),
+        },
+        Field::Escape => None,
+    }
+}
+
+/// What is wrong with a line that is outside the grammar: its first word, the count of its words, or else the first of them
+/// that isn't what it has to be. The escaped text of an `append` is the last, so it is at fault where nothing before it is.
+pub fn explain_line(line: &[u8]) -> LineFault {
+    let (first, mut rest) = split_word(line);
+    let Some(fields) = fields_after(first) else {
+        return LineFault::UnknownWord;
+    };
+    let wanted = (fields.len() as u64).saturating_add(1);
+    let found = count_words(line);
+    if found != wanted {
+        return LineFault::WordCount { wanted, found };
+    }
+    let mut place = 1u64;
+    for field in fields {
+        let Some(words) = rest else {
+            return LineFault::WordCount { wanted, found };
+        };
+        let (word, others) = split_word(words);
+        place = place.saturating_add(1);
+        if let Some(fault) = fault_of(*field, word, place) {
+            return fault;
+        }
+        rest = others;
+    }
+    LineFault::NoEscape { word: place }
+}
