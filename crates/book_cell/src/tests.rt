@@ -1,3 +1,4 @@
+//! Two users in two threads, whose last demands stand.
 use super::*;
 use karma_rule::Shape;
 use std::test::Fail;
@@ -5,9 +6,7 @@ use std::test::Fail;
 #[test]
 fn two_threads_report(rt: HostRuntime) -> Result<(), Fail> {
     let shape = Shape::plan(2, 2, 1, 5)?;
-    let Ok(done) = report_at_once(&rt, rt.alloc(), shape, 1000) else {
-        panic!(rt; "there is memory, and there are passes")
-    };
+    let done = report_at_once(&rt, rt.alloc(), shape, 1000)?;
     assert_eq!(rt; done.calls_left, 4_294_966_296);
     assert_eq!(rt; done.second, 1);
     for user in 0..2 {

@@ -1,10 +1,12 @@
 -- What contracts see of a cell and of its passes.
-use Rattle.std.specs.Prelude.{◌≡◌, ℕ, ◌||◌, Bool, true, false, min, max, List, [], ◌∷◌, ◌++◌, Some}
+use Rattle.std.specs.Prelude.{◌≡◌, ℕ, ◌-◌, ◌||◌, Bool, true, false, min, max, List, [], ◌∷◌, ◌++◌, length, Some}
+use mathlib.Core.List.{IsPrefix}
 use Rattle.atomic_table.specs.Seated.{TableId}
 use Rattle.atomic_table.specs.Table.{Me}
 use Rattle.turn_cell.specs.declared.knows.Logged.{Logged}
 use Rattle.turn_cell.specs.declared.knows.Knows.{Knows}
-use Rattle.turn_cell.specs.History.{HasSeen, AddsCall, longer}
+use Rattle.turn_cell.specs.declared.cell.TheConstants.{CALLS_EACH}
+use Rattle.turn_cell.specs.History.{HasSeen, AddsCall, asks_by, longer}
 use Rattle.turn_cell.specs.Turns.{IsReady}
 
 -- which cell it is, and its key
@@ -31,11 +33,33 @@ pub record PassView (E K : Type 0) : Type 0 where
 module _ {E K : Type 0} where
   -- the first pass of a cell
   abbrev pub first_pass : CellView K → PassView E K
-  first_pass cell = record { cell = cell; number = 0; names = 0 ∷ []; made = []; found = 0; left = 4294967296; may_move = true; seen = [] }
+  first_pass cell = record {
+    cell = cell;
+    number = 0;
+    names = 0 ∷ [];
+    made = [];
+    found = 0;
+    left = CALLS_EACH;
+    may_move = true;
+    seen = [];
+  }
+
+  -- the same, once a pass with this number was split from it
+  abbrev pub split_first : CellView K → ℕ → PassView E K
+  split_first cell n = record (first_pass cell) { made = n ∷ []; found = n }
 
   -- the pass with this number that is split from another
   abbrev pub split_pass : PassView E K → ℕ → PassView E K
-  split_pass p n = record { cell = p.cell; number = n; names = n ∷ []; made = []; found = 0; left = 4294967296; may_move = false; seen = p.seen }
+  split_pass p n = record {
+    cell = p.cell;
+    number = n;
+    names = n ∷ [];
+    made = [];
+    found = 0;
+    left = CALLS_EACH;
+    may_move = false;
+    seen = p.seen;
+  }
 
   -- two passes as one
   abbrev pub joined_pass : PassView E K → PassView E K → PassView E K
@@ -55,7 +79,22 @@ module _ {E K : Type 0} where
   StillSees moving p h = HasSeen moving p.names p.may_move p.seen h
 
   abbrev pub pass_view : TableId → K → Knows E K → PassView E K
-  pass_view table key v = record { cell = record { table = table; key = key }; number = v.number; names = v.names; made = v.made; found = v.found; left = v.left; may_move = v.may_move; seen = v.seen }
+  pass_view table key v = record {
+    cell = record { table = table; key = key };
+    number = v.number;
+    names = v.names;
+    made = v.made;
+    found = v.found;
+    left = v.left;
+    may_move = v.may_move;
+    seen = v.seen;
+  }
+
+-- The pass made these asks, one after the other: it has so many calls less, and of its own calls these asks came to what it had seen.
+pub record MakesAsks {A E K : Type 0} (ask_of : E → A) (p : PassView E K) (asks : List A) (q : PassView E K) : Type 0 where
+  pub same : q ≡ record p { left = p.left - length asks; seen = q.seen }
+  pub begins : IsPrefix p.seen q.seen
+  pub asked : asks_by ask_of p.number q.seen ≡ asks_by ask_of p.number p.seen ++ asks
 
 module _ {O A T E K : Type 0} (key_of : O → K) (stands : O → List E → Type 0) (moving : E → Bool) (moves : A → Bool) (entry : O → A → T → O → E) (answers : K → List E → A → T → Type 0) where
   -- the pass made the call, and has seen the history up to its entry

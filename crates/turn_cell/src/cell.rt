@@ -1,9 +1,9 @@
 //! The cell, its passes, and what is left of a cell that was closed.
-ghost use Rattle.std.specs.Prelude.{◌≡◌, ℕ, ◌<◌, ◌≤◌, ◌-◌, ◌^◌, ◌⊎◌, [], ◌∷◌, length, true, false, IfOk, MatchResult, Some};
+ghost use Rattle.std.specs.Prelude.{◌≡◌, ℕ, ◌<◌, ◌≤◌, ◌-◌, ◌⊎◌, [], ◌∷◌, length, true, false, IfOk, OnErr, MatchResult, Some};
 ghost use Rattle.turn_cell.specs.declared.cell.PassEnd.TheVariants.{NoMorePasses};
 ghost use Rattle.turn_cell.specs.declared.knows.Logged.{Logged};
 ghost use Rattle.turn_cell.specs.History.{In, calls_by, longer, entries};
-ghost use Rattle.turn_cell.specs.Passes.{first_pass, split_pass, joined_pass, StillSees, Calls};
+ghost use Rattle.turn_cell.specs.Passes.{first_pass, split_first, split_pass, joined_pass, StillSees, Calls};
 ghost use Rattle.turn_cell.specs.Turns.{IsSeatOf, IsReady, Learns};
 
 use crate::bells::Bells;
@@ -16,13 +16,13 @@ use std::alloc::{AllocError, AllocFailed, Global};
 use std::error::Error;
 use std::fmt;
 use std::marker::Model;
-use std::sync::Wait;
+use std::sync::{Mutex, Wait};
 
-/// How many numbers of one cell name passes.
-const MOST: u64 = 1 << 30;
+/// How many numbers of one cell name passes: 2^30.
+pub const MOST_PASSES: u64 = 0x4000_0000;
 
-/// How many calls a new pass may make.
-const CALLS: u64 = 1 << 32;
+/// How many calls a new pass may make: 2^32.
+pub const CALLS_EACH: u64 = 0x1_0000_0000;
 
 /// A cell by its parts: what lies in the slot, the entries, the key and the rule. [`TurnCell`] is this type for an object.
 ///
@@ -32,6 +32,8 @@ pub struct TurnTable<S, E, K, P: TableRule<S, Knows<E, K>, K>> {
     table: Table<S, Knows<E, K>, K, P, Global>,
     key: K,
     bells: Bells,
+    /// Held over each call, so that who is inside is served at once. No promise rests on it.
+    gate: Mutex<()>,
 }
 
 impl<S, E, K, P: TableRule<S, Knows<E, K>, K>> Model for TurnTable<S, E, K, P> {
@@ -101,7 +103,7 @@ pub type Shown<B> = ShownHistory<<B as Object>::Entry, <B as Object>::Key>;
 /// Why a pass can't be split.
 #[derive(Clone, Copy, Debug, PartialEq, Eq)]
 pub enum PassEnd {
-    /// This many numbers of passes were drawn of the cell before, and at most 2^30 = 1,073,741,824 name a pass.
+    /// This many numbers of passes were drawn of the cell before, and at most [`MOST_PASSES`] name a pass.
     NoMorePasses { made: u64 },
 }
 
@@ -114,7 +116,7 @@ impl fmt::Display for PassEnd {
 impl Error for PassEnd {}
 
 impl<B: Object> TurnCell<B> {
-    /// A cell with this object, and its first pass, which has the number 0, 2^32 = 4,294,967,296 calls left and the right to move.
+    /// A cell with this object, and its first pass, which has the number 0, [`CALLS_EACH`] calls left and the right to move.
     ///
     /// The history is empty. The one error is want of memory, which gives the object up.
     pub fn new(alloc: Global, object: B) -> Result<(TurnCell<B>, Pass<B>), AllocError>
@@ -137,15 +139,47 @@ impl<B: Object> TurnCell<B> {
                     seat,
                     key,
                     number: 0,
-                    left: CALLS,
+                    left: CALLS_EACH,
                     may_move: true,
                 };
-                Ok((TurnTable { table, key, bells }, first))
+                let gate = Mutex::new(());
+                let cell = TurnTable {
+                    table,
+                    key,
+                    bells,
+                    gate,
+                };
+                Ok((cell, first))
             }
             Err(Refused { slots: _ }) => Err(AllocError),
         }
     }
 
+    /// A cell with this object, and the passes of two callers: its first, and one that was split from that.
+    ///
+    /// The one error is want of memory, which gives the object up.
+    pub fn new_for_two(
+        alloc: Global,
+        object: B,
+    ) -> Result<(TurnCell<B>, Pass<B>, Pass<B>), AllocError>
+    where
+        B: Drop,
+        requires { B.stands object [] }
+        ensures key { IfOk result (λ r. r.0.key ≡ B.key_of object) }
+        ensures first { IfOk result (λ r. r.1 ≡ split_first r.0 r.2.number) }
+        ensures second { IfOk result (λ r. r.2 ≡ split_pass (first_pass r.0) r.2.number) }
+        ensures apart { IfOk result (λ r. 0 < r.2.number) }
+    {
+        let (cell, mut first) = TurnCell::new(alloc, object)?;
+        let Ok(second) = first.split(&cell) else {
+            // Each number that was drawn is a name of the pass with which a cell closes. This one has a single name, so not all can have been drawn.
+            cell.close(first);
+            unreachable!()
+        };
+        Ok((cell, first, second))
+    }
+
+    /// The object's key.
     pub fn key(&self) -> B::Key
         ensures { result ≡ self.now.key }
     {
@@ -164,7 +198,9 @@ impl<B: Object> TurnCell<B> {
         ensures same { pass.new ≡ record pass.old { left = pass.old.left - 1; seen = pass.new.seen } }
         ensures history { Calls B.key_of B.stands B.moving B.moves B.entry B.answers pass.old ask result pass.new.seen }
     {
+        let gate = self.gate.lock(rt);
         let tell = turn::<B, R>(rt, &self.table.shared, &self.bells, &mut pass.seat, ask);
+        drop(gate);
         pass.left -= 1;
         tell
     }
@@ -172,7 +208,8 @@ impl<B: Object> TurnCell<B> {
     /// Ends the cell, and gives the object and the whole history, which the pass has seen.
     ///
     /// The pass has to be the only one left: all others were joined into it. It is, where the first pass is among its names, and with each name all
-    /// that were split from it.
+    /// that were split from it. Each number of a pass that was drawn, as far as the pass has come upon it, is then one of its names: where a split was
+    /// refused on the way, all of them are.
     pub fn close(self, pass: Pass<B>) -> (B, Shown<B>)
         requires cell { pass.cell ≡ self }
         requires first { In 0 pass.names }
@@ -180,6 +217,7 @@ impl<B: Object> TurnCell<B> {
         ensures shows { result.1 ≡ pass.seen }
         ensures stands { B.stands result.0 (entries result.1) }
         ensures callers { (l : Logged B.Entry) → In l result.1 → In l.by pass.names }
+        ensures drawn { (n : ℕ) → n < pass.found → n < MOST_PASSES → In n pass.names }
         ensures right { pass.may_move ≡ true }
         ensures key { B.key_of result.0 ≡ self.key }
     {
@@ -187,6 +225,7 @@ impl<B: Object> TurnCell<B> {
             table,
             key: _,
             bells: _,
+            gate: _,
         } = self;
         let TurnSeat {
             mut seat,
@@ -209,12 +248,13 @@ impl<B: Object> TurnCell<B> {
     }
 }
 
-// One pass learns what another has seen, by a note.
+/// One pass learns what another has seen, by a note.
 fn learn<B: Object>(table: &TableOf<B>, seat: &mut SeatOf<B>, other: &mut SeatOf<B>)
     requires seats { IsSeatOf table.now.table_id seat.old.table_id × (other.old.table_id ≡ table.now.table_id) }
     requires ready { IsReady seat.old.me }
     ensures other { (other.new.table_id ≡ other.old.table_id) × (other.new.me ≡ other.old.me) }
-    ensures learned { (seat.new.table_id ≡ seat.old.table_id) × Learns B.moving seat.old.me other.old.me.0.seen seat.new.me }
+    ensures seat { seat.new.table_id ≡ seat.old.table_id }
+    ensures learned { Learns B.moving seat.old.me other.old.me.0.seen seat.new.me }
 {
     let note = table.split_seat::<Note>(other);
     table.join_seat::<Learn>(seat, note);
@@ -244,27 +284,29 @@ impl<B: Object> Pass<B> {
         self.may_move
     }
 
-    /// Makes a pass that has seen what this one has seen, has 2^32 calls left and no right to move.
+    /// Makes a pass that has seen what this one has seen, has [`CALLS_EACH`] calls left and no right to move.
     ///
     /// Its number is above each number that this pass knows, and no entry that was seen is under it. It takes no memory. `NoMorePasses` comes exactly
-    /// where 2^30 numbers or more had been drawn when this call looked or drew, and `made` is how many it found.
+    /// where [`MOST_PASSES`] numbers or more had been drawn when this call looked or drew, and `made` is how many it found.
     pub fn split(&mut self, cell: &TurnCell<B>) -> Result<Pass<B>, PassEnd>
         requires cell { self.old.cell ≡ cell.now }
         ensures same { self.new ≡ record self.old { made = self.new.made; found = self.new.found } }
         ensures rose { self.old.found ≤ self.new.found }
-        ensures exactly { MatchResult result (λ p. (self.new.found ≡ p.number) × (p.number < 2 ^ 30)) (λ e. (e ≡ NoMorePasses self.new.found) × (2 ^ 30 ≤ self.new.found)) }
-        ensures made { MatchResult result (λ p. self.new.made ≡ p.number ∷ self.old.made) (λ e. self.new.made ≡ self.old.made) }
+        ensures exactly { MatchResult result (λ p. p.number < MOST_PASSES) (λ e. MOST_PASSES ≤ self.new.found) }
+        ensures found { MatchResult result (λ p. self.new.found ≡ p.number) (λ e. e ≡ NoMorePasses self.new.found) }
+        ensures made { IfOk result (λ p. self.new.made ≡ p.number ∷ self.old.made) }
+        ensures none_made { OnErr result (self.new.made ≡ self.old.made) }
         ensures pass { IfOk result (λ p. p ≡ split_pass self.old p.number) }
         ensures fresh { IfOk result (λ p. (n : ℕ) → In n self.old.names ⊎ In n self.old.made → n < p.number) }
         ensures unused { IfOk result (λ p. calls_by p.number self.old.seen ≡ []) }
     {
         let table = &cell.table.shared;
         let made = table.load::<Count>(&mut self.seat, PASSES);
-        if made >= MOST {
+        if made >= MOST_PASSES {
             return Err(PassEnd::NoMorePasses { made });
         }
         let number = table.fetch_add::<Number>(&mut self.seat, PASSES, 1);
-        if number >= MOST {
+        if number >= MOST_PASSES {
             return Err(PassEnd::NoMorePasses { made: number });
         }
         let seat = table.split_seat::<Cut>(&mut self.seat);
@@ -272,7 +314,7 @@ impl<B: Object> Pass<B> {
             seat,
             key: self.key,
             number: number as u32,
-            left: CALLS,
+            left: CALLS_EACH,
             may_move: false,
         })
     }

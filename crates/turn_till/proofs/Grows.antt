@@ -1,5 +1,5 @@
 -- A history that grows by one entry.
-use Rattle.std.proofs.Common.{◌≡◌, ℕ, ◌+◌, ◌≤◌, ◌^◌, List, [], ◌∷◌, ◌++◌, MatchOption, refl, ap, sym, ◌∙◌, subst, Some, None}
+use Rattle.std.proofs.Common.{◌≡◌, ℕ, ◌+◌, ◌≤◌, ◌^◌, List, [], ◌∷◌, ◌++◌, IfSome, IfNone, refl, ap, sym, ◌∙◌, subst, Some, None}
 use Rattle.std.specs.declared.option.Option.{Option}
 use Rattle.turn_till.specs.declared.till.Till.{Till}
 use Rattle.turn_till.specs.declared.till.TillAsk.{TillAsk}
@@ -28,6 +28,6 @@ stands_more t u ask tell h s float cash right =
     }
 
 -- what a payment leaves and answers
-pub paid : (cash now n : ℕ) (o : Option ℕ) → MatchOption o ((now ≡ cash) × (2 ^ 64 ≤ cash + n)) (λ m. (now ≡ cash + n) × (m ≡ now)) → (now ≡ cash_with cash (Pay n) (Paid o)) × IsRight cash (Pay n) (Paid o)
-paid cash now n None h = h
-paid cash now n (Some m) h = (h.0, h.1 ∙ h.0)
+pub paid : (cash now n : ℕ) (o : Option ℕ) → IfSome o (λ m. (now ≡ cash + n) × (m ≡ now)) → IfNone o ((now ≡ cash) × (2 ^ 64 ≤ cash + n)) → (now ≡ cash_with cash (Pay n) (Paid o)) × IsRight cash (Pay n) (Paid o)
+paid cash now n None more full = full
+paid cash now n (Some m) more full = (more.0, more.1 ∙ more.0)

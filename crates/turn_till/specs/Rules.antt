@@ -9,6 +9,9 @@ use Rattle.turn_till.specs.declared.till.TillEntry.{TillEntry}
 abbrev pub entry_of : TillAsk → TillTell → TillEntry
 entry_of ask tell = record { ask = ask; tell = tell }
 
+abbrev pub till_ask : TillEntry → TillAsk
+till_ask e = e.ask
+
 -- the one move
 abbrev pub takes_out : TillAsk → Bool
 takes_out (Pay n) = false

@@ -1,13 +1,13 @@
-//! A till in a turn cell: the smallest object with a move, and two threads that call it.
+//! A demonstration of a turn cell: a till, the smallest object with a move, and a day on which two threads call it.
 //!
-//! Anybody may pay into the till and count what is in it. Only who has the right to move may empty it. It is an example of an object, and what the
-//! cell is run with. No other crate stands on it.
+//! Anybody may pay into the till and count what is in it. Only who has the right to move may empty it. No other crate stands on this one: it shows how an
+//! object is written and what a cell promises its callers, and it is what the cell is tried with.
 #![tactic(auto)]
 
 mod day;
 mod till;
 
-pub use day::{Day, DayEnd, serve_two};
+pub use day::{Day, serve_two};
 pub use till::{Till, TillAsk, TillEntry, TillKey, TillTell};
 
 #[cfg(test)]

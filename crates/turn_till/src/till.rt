@@ -1,4 +1,5 @@
-ghost use Rattle.std.specs.Prelude.{◌≡◌, ◌^◌, ◌+◌, ◌≤◌, [], MatchOption};
+//! A till, as an object that a cell may own.
+ghost use Rattle.std.specs.Prelude.{◌≡◌, ◌^◌, ◌+◌, ◌≤◌, [], IfSome, IfNone};
 
 use turn_cell::Object;
 
@@ -9,6 +10,7 @@ pub struct TillKey {
     pub float: u32,
 }
 
+/// What a till is asked.
 #[derive(Drop)]
 pub enum TillAsk {
     /// Pays in an amount.
@@ -19,10 +21,12 @@ pub enum TillAsk {
     Empty,
 }
 
+/// What a till answers.
 #[derive(Drop)]
 pub enum TillTell {
     /// What is in the till after the payment, or none where it holds no more than it did.
     Paid(Option<u64>),
+    /// What is in the till.
     Counted(u64),
     /// What was taken out.
     Emptied(u64),
@@ -34,16 +38,19 @@ pub struct TillEntry {
     pub tell: TillTell,
 }
 
-/// An amount of money, at most 2^64 - 1.
+/// A till, with at most 2^64 - 1 in it.
 #[derive(Drop)]
 pub struct Till {
+    /// What lay in it at its opening.
     float: u32,
+    /// What is in it.
     cash: u64,
 }
 
 impl Till {
     ghost use Rattle.turn_till.specs.Standing.{StandsFor, key_of_till};
 
+    /// A till with this in it.
     pub fn new(float: u32) -> Till
         ensures stands { StandsFor result [] }
         ensures key { (key_of_till result).float ≡ float }
@@ -61,15 +68,18 @@ impl Till {
         self.cash
     }
 
+    /// Pays in an amount. None where the till would hold 2^64 or more, and then it stays as it was.
     fn pay(&mut self, amount: u32) -> Option<u64>
         ensures float { self.new.float ≡ self.old.float }
-        ensures paid { MatchOption result ((self.new.cash ≡ self.old.cash) × (2 ^ 64 ≤ self.old.cash + amount)) (λ n. (self.new.cash ≡ self.old.cash + amount) × (n ≡ self.new.cash)) }
+        ensures paid { IfSome result (λ n. (self.new.cash ≡ self.old.cash + amount) × (n ≡ self.new.cash)) }
+        ensures full { IfNone result ((self.new.cash ≡ self.old.cash) × (2 ^ 64 ≤ self.old.cash + amount)) }
     {
         let more = self.cash.checked_add(amount as u64)?;
         self.cash = more;
         Some(more)
     }
 
+    /// Takes all out.
     fn empty(&mut self) -> u64
         ensures float { self.new.float ≡ self.old.float }
         ensures emptied { (result ≡ self.old.cash) × (self.new.cash ≡ 0) }

@@ -6,7 +6,7 @@ use Rattle.turn_till.proofs.till.TillObject.apply.Goals as goal
 
 pub returns-in-Pay-clause-stands : goal.returns-in-Pay-clause-stands
 returns-in-Pay-clause-stands c h s =
-    let p = paid c.args.self.now.cash c.pay.new.self.cash c.in-Pay.amount c.pay.result c.pay.ensures.paid in
+    let p = paid c.args.self.now.cash c.pay.new.self.cash c.in-Pay.amount c.pay.result c.pay.ensures.paid c.pay.ensures.full in
     rw c.in-Pay.is (stands_more c.args.self.now c.pay.new.self (Pay c.in-Pay.amount) (Paid c.pay.result) h s c.pay.ensures.float p.0 p.1)
 
 pub returns-in-Count-clause-stands : goal.returns-in-Count-clause-stands

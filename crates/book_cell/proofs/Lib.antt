@@ -1,0 +1,2 @@
+-- a user's reports, one by one
+pub mod Reporting

@@ -1,0 +1,2 @@
+-- what users report
+pub mod Reports
