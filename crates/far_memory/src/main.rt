@@ -1,15 +1,20 @@
-//! The program: real objects, one top call, and its status as the exit code.
+//! The program: help and version, or real objects, one top call, its status as the exit code and why on standard error.
 #![tactic(auto)]
 
-use far_io::{ReadSource, WriteSink};
-use far_top::run_words;
-use plan_run::NO_MEMORY;
+mod help;
+#[cfg(test)]
+mod tests;
+
+use far_io::{ReadSource, Sink, WriteFault, WriteSink, put_all};
+use far_top::run_told;
+use help::{Question, parts, question_of};
+use run_end::{Status, Why};
 use std::alloc::AllocError;
 use std::env::{self, Env};
-use std::io::ErrorKind;
+use std::io::{Error, ErrorKind};
 use std::process::ExitCode;
 
-// The words after the program's name. There are none where one of them isn't UTF-8, so that they are bad words.
+/// The words after the program's name. There are none where one of them isn't UTF-8, so that they are bad words.
 fn words_of<R: Env + AllocGlobal>(rt: &R) -> Result<Vec<String>, AllocError> {
     let mut words = Vec::new(rt.alloc());
     match env::args(rt) {
@@ -28,12 +33,70 @@ fn words_of<R: Env + AllocGlobal>(rt: &R) -> Result<Vec<String>, AllocError> {
     }
 }
 
-fn main(rt: HostRuntime) -> ExitCode {
-    let Ok(words) = words_of(&rt) else {
-        return ExitCode::from(NO_MEMORY);
+/// Writes what was asked for.
+fn put_parts<O: Sink>(question: Question, sink: &mut O) -> Result<(), WriteFault> {
+    for part in parts(question) {
+        put_all(sink, part.as_bytes())?;
+    }
+    Ok(())
+}
+
+/// Says in a line why the program ends, with the system's error where there is one. Where standard error takes no line,
+/// nobody is left to be told.
+fn explain(rt: &HostRuntime, why: Why, error: Option<&Error>) {
+    let told = match error {
+        Some(error) => eprintln!(rt; "far_memory: {why}: {error}"),
+        None => eprintln!(rt; "far_memory: {why}"),
     };
+    match told {
+        Ok(()) | Err(_) => {}
+    }
+}
+
+/// Answers what the words ask to be told. A write that fails is told as any other.
+fn tell(rt: &HostRuntime, question: Question) -> Status {
+    let mut sink = WriteSink::new(rt.stdout());
+    match put_parts(question, &mut sink) {
+        Ok(()) => Status::Done,
+        Err(WriteFault) => {
+            explain(rt, Why::WriteFault, sink.last_error());
+            Status::WriteFault
+        }
+    }
+}
+
+/// Does what the words ask for, and explains a status that isn't 0.
+fn run(rt: &HostRuntime, words: &[String]) -> Status {
     let mut source = ReadSource::new(rt.stdin());
     let mut sink = WriteSink::new(rt.stdout());
-    let status = run_words(rt.alloc(), words.as_slice(), &mut source, &mut sink);
-    ExitCode::from(status)
+    let why = run_told(rt.alloc(), words, &mut source, &mut sink);
+    match why {
+        Why::Done => {}
+        Why::ReadFault => explain(rt, why, source.last_error()),
+        _ => explain(rt, why, sink.last_error()),
+    }
+    if words.is_empty() {
+        put_help(rt);
+    }
+    why.status()
+}
+
+/// Writes help to standard error, as far as it goes.
+fn put_help(rt: &HostRuntime) {
+    let mut sink = WriteSink::new(rt.stderr());
+    match put_parts(Question::Help, &mut sink) {
+        Ok(()) | Err(WriteFault) => {}
+    }
+}
+
+fn main(rt: HostRuntime) -> ExitCode {
+    let Ok(words) = words_of(&rt) else {
+        explain(&rt, Why::NoMemory, None);
+        return ExitCode::from(Status::NoMemory.code());
+    };
+    let status = match question_of(words.as_slice()) {
+        Some(question) => tell(&rt, question),
+        None => run(&rt, words.as_slice()),
+    };
+    ExitCode::from(status.code())
 }

@@ -118,3 +118,15 @@ store_is words others last shape plan slice split store of_plan is_value =
     sliced_same shape (shape_of plan.users plan.share.fair plan.share.floor plan.credits slice)
     (shape_unique others (unsliced shape) (unsliced plan) parts.0 (plan_words others plan of_plan.spelled of_plan.within))
     (sym (number_is last slice shape.slice is_value parts.1 (omega (arith, store.within.slice.1))))
+
+-- and so these are the words of a store
+pub store_made : (words others : List (List ℕ)) (last : List ℕ) (shape plan : Shape) (slice : ℕ) → words ≡ others ++ last ∷ [] → IsShapeWords others plan → plan.users ≡ 1 → last ≡ decimal slice
+    → shape ≡ shape_of 1 plan.share.fair plan.share.floor plan.credits slice → IsStore shape → IsStoreWords words shape
+store_made words others last shape plan slice split of_plan one spelled is within =
+    let made : Shape = shape_of 1 plan.share.fair plan.share.floor plan.credits slice in
+    let numbers : shape_words plan ≡ shape_words made = ap (λ n. decimal n ∷ decimal plan.share.fair ∷ decimal plan.share.floor ∷ decimal plan.credits ∷ []) one in
+    subst (IsStoreWords words) (sym is) (record {
+      spelled = split ∙ ap (λ ws. ws ++ last ∷ []) (of_plan.spelled ∙ numbers) ∙ ap (λ (w : List ℕ). shape_words made ++ w ∷ []) spelled;
+      within = subst IsStore is within;
+      one_user = refl;
+    })

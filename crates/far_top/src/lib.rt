@@ -5,7 +5,7 @@ mod command;
 mod run;
 
 pub use command::{Command, read_words};
-pub use run::run_words;
+pub use run::{run_told, run_words};
 
 #[cfg(test)]
 mod tests;

@@ -1,71 +1,48 @@
-ghost use Rattle.std.specs.Prelude.{◌≡◌, ℕ, ◌⊎◌, true, IfSome, List, [], ◌∷◌, Contains, map, string_bytes, Some};
-ghost use Rattle.far_io.specs.Faults.{Rose, Follows};
-ghost use Rattle.far_io.specs.Left.{IsAtEnd};
-ghost use Rattle.far_io.specs.Lines.{lines_of};
-ghost use Rattle.far_io.specs.Adds.{Adds, AddsPrefix};
-ghost use Rattle.karma_rule.specs.declared.shape.Shape.{Shape};
-ghost use Rattle.plan_run.specs.KarmaLog.{IsKarmaLog};
-ghost use Rattle.plan_run.specs.Status.{IsWhole};
-ghost use Rattle.plan_run.specs.Writes.{WritesText, EndsAs, WritesPrefix};
+//! The top calls: what the words ask for, from a source to a sink.
+
+ghost use Rattle.std.specs.Prelude.{◌≡◌, map, string_bytes};
+ghost use Rattle.run_end.specs.Why.{end_of, EndsWith};
+ghost use Rattle.line_run.specs.Runs.{reading};
 ghost use Rattle.far_top.specs.declared.command.Command.{Command};
-ghost use Rattle.replay_run.specs.Replays.{IsReplayed};
-ghost use Rattle.far_top.specs.Commands.{IsWords, IsNoWords, IsWithinLimits, WritesAtFault, IsReplayedBy, ending_of, reserves, statuses_of};
-ghost use Rattle.far_top.specs.Refusals.{bad_words};
+ghost use Rattle.far_top.specs.Commands.{IsWords, IsNoWords, IsWithinLimits};
+ghost use Rattle.far_top.specs.Runs.{CommandEnds, RefusesWords, WordsEnd};
 
 use crate::command::{Command, read_words};
-use far_io::{Sink, Source, WriteFault, put_all};
-use plan_run::{WRITE_FAULT, run_audit, run_plan};
-use replay_run::run_replay;
+use far_io::{Sink, Source, WriteFault};
+use plan_run::{audit_told, plan_told};
+use replay_run::replay_told;
+use run_end::{Why, WordsFault, put_bad_words};
 use std::alloc::Global;
 
-/// The status where the words are outside the grammar.
-pub const BAD_WORDS: u8 = 2;
-
-// Does what was asked for.
+/// Does what was asked for.
 fn run_command<S: Source, O: Sink>(
     alloc: Global,
     command: Command,
     source: &mut S,
     sink: &mut O,
-) -> u8
+) -> Why
     requires { IsWithinLimits command }
-    ensures listed { Contains (statuses_of command) result }
-    ensures whole { IfSome (ending_of command) (λ ending. IsWhole result → WritesText O.took sink.old sink.new (S.left source.old) ending) }
-    ensures status { IfSome (ending_of command) (λ ending. IsWhole result → EndsAs (S.left source.old) ending result) }
-    ensures part { IfSome (ending_of command) (WritesPrefix O.took sink.old sink.new (S.left source.old)) }
-    ensures replayed { IsReplayedBy O.took O.faults sink.old sink.new (S.left source.old) command result }
-    ensures ended { result ≡ 4 → WritesAtFault O.took sink.old sink.new (S.left source.old) (S.left source.new) command }
-    ensures at_end { result ≡ 0 → IsAtEnd (S.left source.new) }
-    ensures read_fault { result ≡ 4 → Rose (S.faults source.old) (S.faults source.new) }
-    ensures write_fault { result ≡ 5 → Rose (O.faults sink.old) (O.faults sink.new) }
-    ensures unread { result ≡ 6 → reserves command ≡ true → source.new ≡ source.old }
-    ensures unwritten { result ≡ 6 → reserves command ≡ true → sink.new ≡ sink.old }
-    ensures source { Follows (S.faults source.old) (S.faults source.new) }
-    ensures sink { Follows (O.faults sink.old) (O.faults sink.new) }
+    ensures { CommandEnds S.left S.faults O.took O.faults
+        source.old source.new sink.old sink.new command (end_of result) }
 {
     match command {
-        Command::Plan(shape) => run_plan(alloc, shape, source, sink),
-        Command::Audit(shape) => run_audit(alloc, shape, source, sink),
-        Command::Replay(shape) => run_replay(alloc, shape, source, sink),
+        Command::Plan(shape) => plan_told(alloc, shape, source, sink),
+        Command::Audit(shape) => audit_told(alloc, shape, source, sink),
+        Command::Replay(shape) => replay_told(alloc, shape, source, sink),
     }
 }
 
-// Writes the line for bad words, and answers the status.
-#[tactic(auto, unfolding(crate::specs::Refusals::bad_words))]
-fn refuse<O: Sink>(sink: &mut O) -> u8
-    ensures listed { (result ≡ 2) ⊎ (result ≡ 5) }
-    ensures whole { result ≡ 2 → Adds O.took sink.old sink.new bad_words }
-    ensures part { AddsPrefix O.took sink.old sink.new bad_words }
-    ensures fault { result ≡ 5 → Rose (O.faults sink.old) (O.faults sink.new) }
-    ensures faults { Follows (O.faults sink.old) (O.faults sink.new) }
+/// Writes the line for bad words.
+fn refuse<O: Sink>(fault: WordsFault, sink: &mut O) -> Why
+    ensures { RefusesWords O.took O.faults sink.old sink.new (end_of result) }
 {
-    match put_all(sink, b"bad words\n") {
-        Ok(()) => BAD_WORDS,
-        Err(WriteFault) => WRITE_FAULT,
+    match put_bad_words(sink) {
+        Ok(()) => Why::BadWords { fault },
+        Err(WriteFault) => Why::WriteFault,
     }
 }
 
-/// Does what the words after the program's name ask for, from the source to the sink, and answers a status:
+/// Does what the words after the program's name ask for, from the source to the sink, and answers why it ended:
 ///
 /// | Status | Meaning |
 /// | --- | --- |
@@ -79,52 +56,34 @@ fn refuse<O: Sink>(sink: &mut O) -> u8
 /// | 9 | a line of the log isn't the one that the rule gives; both are written |
 ///
 /// `docs/PROMISES.md` states the theorem that the clauses carry.
+pub fn run_told<S: Source, O: Sink>(
+    alloc: Global,
+    words: &[String],
+    source: &mut S,
+    sink: &mut O,
+) -> Why
+    ensures ended { WordsEnd S.left S.faults O.took O.faults
+        source.old source.new sink.old sink.new (map string_bytes words.now) (end_of result) }
+
+    // Words ask for one thing at most.
+    ensures one_command { (one other : Command) → IsWords (map string_bytes words.now) one
+        → IsWords (map string_bytes words.now) other → one ≡ other }
+{
+    match read_words(words) {
+        Ok(command) => run_command(alloc, command, source, sink),
+        Err(fault) => refuse(fault, sink),
+    }
+}
+
+/// The same as `run_told`, with the number of the status for an answer.
 pub fn run_words<S: Source, O: Sink>(
     alloc: Global,
     words: &[String],
     source: &mut S,
     sink: &mut O,
 ) -> u8
-    // Words outside the grammar get `bad words`, and no byte is read.
-    ensures bad_words { result ≡ 2 → IsNoWords (map string_bytes words.now) }
-    ensures refused { IsNoWords (map string_bytes words.now) → (result ≡ 2) ⊎ (result ≡ 5) }
-    ensures refusal { result ≡ 2 → Adds O.took sink.old sink.new bad_words }
-    ensures refusal_part { IsNoWords (map string_bytes words.now) → AddsPrefix O.took sink.old sink.new bad_words }
-    ensures refusal_unread { IsNoWords (map string_bytes words.now) → source.new ≡ source.old }
-
-    ensures listed { (command : Command) → IsWords (map string_bytes words.now) command → Contains (statuses_of command) result }
-    ensures ended { (command : Command) → IsWords (map string_bytes words.now) command → result ≡ 4
-        → WritesAtFault O.took sink.old sink.new (S.left source.old) (S.left source.new) command }
-    ensures at_end { result ≡ 0 → IsAtEnd (S.left source.new) }
-
-    // For the words of a plan and of an audit, what is written and the status are functions of the input, where the source
-    // tells it, but for faults and memory.
-    ensures whole { (command : Command) → IsWords (map string_bytes words.now) command
-        → IfSome (ending_of command) (λ ending. IsWhole result → WritesText O.took sink.old sink.new (S.left source.old) ending) }
-    ensures status { (command : Command) → IsWords (map string_bytes words.now) command
-        → IfSome (ending_of command) (λ ending. IsWhole result → EndsAs (S.left source.old) ending result) }
-    ensures part { (command : Command) → IsWords (map string_bytes words.now) command
-        → IfSome (ending_of command) (WritesPrefix O.took sink.old sink.new (S.left source.old)) }
-
-    // An audit ends with 0 exactly where the lines of the input are a log of Karma.
-    ensures accepts { (shape : Shape) → IsWords (map string_bytes words.now) (Command.Audit shape) → result ≡ 0
-        → (bytes : List ℕ) → S.left source.old ≡ Some bytes → IsKarmaLog shape (lines_of bytes) }
-    ensures accepted { (shape : Shape) → IsWords (map string_bytes words.now) (Command.Audit shape) → IsWhole result
-        → (bytes : List ℕ) → S.left source.old ≡ Some bytes → IsKarmaLog shape (lines_of bytes) → result ≡ 0 }
-
-    // For the words of a replay, what is written is the text of a run of a core, whose events the lines of the input spell.
-    ensures replayed { (shape : Shape) → IsWords (map string_bytes words.now) (Command.Replay shape)
-        → IsReplayed O.took O.faults sink.old sink.new shape (S.left source.old) result }
-
-    ensures read_fault { result ≡ 4 → Rose (S.faults source.old) (S.faults source.new) }
-    ensures write_fault { result ≡ 5 → Rose (O.faults sink.old) (O.faults sink.new) }
-    ensures unread { (command : Command) → IsWords (map string_bytes words.now) command → result ≡ 6 → reserves command ≡ true → source.new ≡ source.old }
-    ensures unwritten { (command : Command) → IsWords (map string_bytes words.now) command → result ≡ 6 → reserves command ≡ true → sink.new ≡ sink.old }
-    ensures source { Follows (S.faults source.old) (S.faults source.new) }
-    ensures sink { Follows (O.faults sink.old) (O.faults sink.new) }
+    ensures { EndsWith result (WordsEnd S.left S.faults O.took O.faults
+        source.old source.new sink.old sink.new (map string_bytes words.now)) }
 {
-    match read_words(words) {
-        Some(command) => run_command(alloc, command, source, sink),
-        None => refuse(sink),
-    }
+    run_told(alloc, words, source, sink).status().code()
 }

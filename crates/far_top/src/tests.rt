@@ -1,3 +1,6 @@
+//! Runs over memory, from words and bytes to a status and bytes.
+
+mod faults;
 mod replays;
 
 use crate::run_words;
@@ -26,7 +29,7 @@ fn run(
     for word in words.split(' ') {
         list.push(String::from_str(alloc, word)?)?;
     }
-    let bytes = Raw::from_vec(Vec::from_slice(alloc, input)?);
+    let bytes = Raw::from(Vec::from_slice(alloc, input)?);
     let mut source = MemSource::new(bytes, piece.max(1), Vec::from_slice(alloc, &[read_fault])?);
     let mut sink = MemSink::new(alloc, Vec::from_slice(alloc, &[write_fault])?);
     let status = run_words(alloc, list.as_slice(), &mut source, &mut sink);
@@ -160,7 +163,8 @@ fn each_read_that_fails(rt: HostRuntime) -> Result<(), Fail> {
     Ok(())
 }
 
-// Each block is one call of the sink, and so is the last line.
+// No further line is there whole after each of the first three, so each block goes out by itself, and so does the last
+// line.
 #[test]
 fn each_write_that_fails(rt: HostRuntime) -> Result<(), Fail> {
     let input = b"3 2 1\n3 0 0\n0 4 4\nx\n";

@@ -18,8 +18,9 @@ use Rattle.quantum_text.specs.declared.line_kind.LineKind.TheVariants.{Quantum, 
 use Rattle.quantum_text.specs.LineKind.{limit_of, count_of, numbers_of}
 use Rattle.quantum_text.specs.Block.{line_text, IsLine, IsNoLine}
 use Rattle.quantum_text.proofs.Words.{line_words, numbers_fit}
-use Rattle.plan_run.specs.declared.run_end.RunEnd.TheVariants.{NotKarma}
-use Rattle.plan_run.specs.Ending.{Ending}
+use Rattle.run_end.specs.declared.TheConstants.{MOST_LINE}
+use Rattle.run_end.specs.declared.status.Status.TheVariants.{NotKarma}
+use Rattle.plan_run.specs.Ending.{Ending, ends_at}
 use Rattle.plan_run.specs.AuditText.{with_demands, numbers_of_line, due_numbers, is_first, wanted, compared, AuditState, audit_state, not_karma, audit_one, bad_ending, read_as, judged, IsMade, IsAt, next_kind, audit_end, audit_over}
 
 -- lists of numbers that are the same at each place
@@ -57,18 +58,18 @@ module _ (kind : LineKind) (users : ℕ) (line : List ℕ) where
   as_numbers : List ℕ → Option (List ℕ)
   as_numbers numbers = cond (bytes_eq line (line_text kind numbers) && (eqb (length numbers) (count_of kind users)) && list_all (λ n. nat_le n (limit_of kind)) numbers) (Some numbers) None
 
-  pub line_good : (numbers : List ℕ) → length line ≤ 262144 → IsLine kind users line numbers → numbers_of_line kind users line ≡ Some numbers
+  pub line_good : (numbers : List ℕ) → length line ≤ MOST_LINE → IsLine kind users line numbers → numbers_of_line kind users line ≡ Some numbers
   unfolding as_numbers
   line_good numbers fits is_line =
       let spelled : map value_of (drop 1 (words_of line)) ≡ numbers = ap (λ l. map value_of (drop 1 (words_of l))) is_line.spelled ∙ ap (λ ws. map value_of (drop 1 ws)) (line_words kind numbers is_line.within)
       ∙ values_back numbers (numbers_fit kind numbers is_line.within) in
-      cond-true _ _ _ (le-leb (length line) 262144 fits) ∙ ap as_numbers spelled
+      cond-true _ _ _ (le-leb (length line) MOST_LINE fits) ∙ ap as_numbers spelled
       ∙ cond-true _ _ _ (and_from _ _ (and_from _ _ ((bytes_eq-Decides line (line_text kind numbers)).1 is_line.spelled) (eq-eqb (length numbers) (count_of kind users) is_line.many)) ((all_within (limit_of kind) numbers).1 is_line.within))
 
-  pub line_none : length line ≤ 262144 → IsNoLine kind users line → numbers_of_line kind users line ≡ None
+  pub line_none : length line ≤ MOST_LINE → IsNoLine kind users line → numbers_of_line kind users line ≡ None
   line_none fits none =
       let numbers = map value_of (drop 1 (words_of line)) in
-      cond-true _ _ _ (le-leb (length line) 262144 fits) ∙ cond-false _ _ _ (false_from_ne_true _ (λ all.
+      cond-true _ _ _ (le-leb (length line) MOST_LINE fits) ∙ cond-false _ _ _ (false_from_ne_true _ (λ all.
       let parts = and_parts _ _ all in
       let two = and_parts _ _ parts.0 in
       none numbers (record {
@@ -121,7 +122,7 @@ compared_one Slices other state line numbers others = refl
 compared_one Credits other state line numbers others = refl
 
 pub differs : (kind : LineKind) (book : BookView) (lines : ℕ) (line numbers : List ℕ) → bytes_eq numbers (wanted kind book) ≡ false → (others : AuditState → Ending)
-    → compared kind (audit_state book kind lines) line numbers others ≡ record { text = not_karma (lines + 1) kind (wanted kind book) line; end = NotKarma }
+    → compared kind (audit_state book kind lines) line numbers others ≡ record { text = not_karma (lines + 1) kind (wanted kind book) line; end = ends_at NotKarma (lines + 1) }
 differs kind book lines line numbers other others = cond-false _ _ _ other
 
 -- no line of the kind that is due, and one that is
@@ -147,8 +148,8 @@ no_choice true = refl
 no_choice false = refl
 
 -- a line that is too long is none of the kind that is due
-pub long_due : (book : BookView) (kind : LineKind) (line : List ℕ) → 262144 < length line → due_numbers book kind line ≡ None
-long_due book kind line long = ap (λ n. cond (is_first kind && nat_le (2 ^ 28) book.quanta) None n) (cond-false _ _ _ (lt-leb (length line) 262144 long)) ∙ no_choice (is_first kind && nat_le (2 ^ 28) book.quanta)
+pub long_due : (book : BookView) (kind : LineKind) (line : List ℕ) → MOST_LINE < length line → due_numbers book kind line ≡ None
+long_due book kind line long = ap (λ n. cond (is_first kind && nat_le (2 ^ 28) book.quanta) None n) (cond-false _ _ _ (lt-leb (length line) MOST_LINE long)) ∙ no_choice (is_first kind && nat_le (2 ^ 28) book.quanta)
 
 pub audit_line_is : (state : AuditState) (line : List ℕ) (lines : List (List ℕ)) → audit_end state (line ∷ lines) ≡ audit_one state line (λ next. audit_end next lines)
 unfolding audit_end

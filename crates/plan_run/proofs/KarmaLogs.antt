@@ -1,5 +1,5 @@
 -- A log is accepted where it is Karma's.
-use Rattle.std.proofs.Common.{◌≡◌, ℕ, suc, ◌+◌, ◌-◌, ◌*◌, ◌<◌, ◌≤◌, ◌^◌, Bool, true, false, cond, ◌&&◌, eqb, nat_le, List, [], ◌∷◌, ◌++◌, length, map, drop, replicate, Option, Some, None, decimal, inl, refl, sym, ◌∙◌, ap, subst, arith}
+use Rattle.std.proofs.Common.{◌≡◌, ℕ, suc, ◌+◌, ◌-◌, ◌*◌, ◌<◌, ◌≤◌, ◌^◌, Bool, true, false, cond, ◌&&◌, eqb, nat_le, List, [], ◌∷◌, ◌++◌, length, map, drop, replicate, Option, Some, None, decimal, refl, sym, ◌∙◌, ap, subst, arith}
 use Rattle.std.specs.List.{All, list_all}
 use Rattle.std.specs.Str.{bytes_eq}
 use Rattle.std.proofs.lemmas.Bool.{cond-true, and_parts, lt-leb, leb-false, eqb-true}
@@ -8,7 +8,6 @@ use Rattle.std.proofs.lemmas.List.Elements.{All-nil, All-cons, All-head, All-tai
 use Rattle.std.proofs.lemmas.Nat.{mul-le}
 use Rattle.std.proofs.lemmas.Slice.Eq.{bytes_eq-Decides}
 use Rattle.far_io.specs.Decimals.{value_of}
-use Rattle.far_io.specs.Lines.{lines_of}
 use Rattle.far_io.specs.Sends.{spaced}
 use Rattle.far_io.specs.Words.{words_of}
 use Rattle.far_io.proofs.Decimals.{decimal_short}
@@ -16,25 +15,24 @@ use Rattle.karma_rule.specs.declared.row.Row.{Row}
 use Rattle.karma_rule.specs.declared.shape.Shape.{Shape}
 use Rattle.karma_rule.specs.Karma.{karma}
 use Rattle.karma_rule.specs.Limits.{IsPlan}
-use Rattle.karma_rule.proofs.Laws.{KeepsLaws, karma_keeps}
+use Rattle.karma_rule.proofs.Laws.{karma_keeps}
+use Rattle.karma_rule.specs.Quanta.{MakesQuantum}
 use Rattle.demand_book.specs.Book.{BookView, opening_book, opening_row, demanding}
 use Rattle.demand_book.specs.Inside.{IsBook}
-use Rattle.demand_book.proofs.RowsOfBook.{one_more, next_from_paid}
+use Rattle.demand_book.proofs.RowsOfBook.{one_more, next_of_quantum}
 use Rattle.quantum_text.specs.declared.line_kind.LineKind.{LineKind}
 use Rattle.quantum_text.specs.declared.line_kind.LineKind.TheVariants.{Quantum, Demand, Slices, Credits}
 use Rattle.quantum_text.specs.LineKind.{limit_of, count_of, word_of}
 use Rattle.quantum_text.specs.Block.{line_text, IsLine}
 use Rattle.quantum_text.proofs.Words.{numbers_fit}
-use Rattle.plan_run.specs.declared.run_end.RunEnd.{RunEnd}
-use Rattle.plan_run.specs.declared.run_end.RunEnd.TheVariants.{Done, BadLine, ReadFault, Spent, NotKarma}
-use Rattle.plan_run.specs.Ending.{Ending, status_of}
+use Rattle.run_end.specs.declared.TheConstants.{MOST_LINE}
+use Rattle.run_end.specs.declared.status.Status.TheVariants.{Done}
+use Rattle.plan_run.specs.Ending.{Ending}
 use Rattle.plan_run.specs.AuditText.{with_demands, numbers_of_line, due_numbers, is_first, wanted, compared, AuditState, audit_state, audit_one, audit_over, audit_end, audited, read_as, judged, next_kind, after_demands}
 use Rattle.plan_run.specs.KarmaLog.{log_lines, IsKarmaLog}
-use Rattle.plan_run.specs.Status.{IsWhole}
-use Rattle.plan_run.specs.Writes.{EndsAs}
 use Rattle.plan_run.proofs.AuditLines.{all_within, line_good, due_left, compared_one, one_good}
 
-some_in : {A : Type 0} (test : Bool) (o : Option A) (x : A) → cond test o None ≡ Some x → (test ≡ true) × (o ≡ Some x)
+pub some_in : {A : Type 0} (test : Bool) (o : Option A) (x : A) → cond test o None ≡ Some x → (test ≡ true) × (o ≡ Some x)
 some_in true o x some = (refl, some)
 some_in false o x some = absurd (cc)
 
@@ -46,7 +44,7 @@ some_out false o x some = (refl, some)
 line_some : (kind : LineKind) (users : ℕ) (line numbers : List ℕ) → numbers_of_line kind users line ≡ Some numbers → IsLine kind users line numbers
 line_some kind users line numbers some =
     let read = map value_of (drop 1 (words_of line)) in
-    let outer = some_in (nat_le (length line) 262144) _ numbers some in
+    let outer = some_in (nat_le (length line) MOST_LINE) _ numbers some in
     let inner = some_in (bytes_eq line (line_text kind read) && (eqb (length read) (count_of kind users)) && list_all (λ n. nat_le n (limit_of kind)) read) (Some read) numbers outer.1 in
     let same : read ≡ numbers = cc in
     let parts = and_parts _ _ inner.0 in
@@ -62,23 +60,23 @@ record Goes (book : BookView) (kind : LineKind) (lines : ℕ) (line : List ℕ) 
   numbers : List ℕ
   is_line : IsLine kind book.shape.users line numbers
   left : (is_first kind && nat_le (2 ^ 28) book.quanta) ≡ false
-  on : (judged kind (audit_state book kind lines) line numbers others).end ≡ Done
+  on : (judged kind (audit_state book kind lines) line numbers others).end.status ≡ Done
 
-bad_end : (spent : Bool) (one other : Ending) → (one.end ≡ Done → ⊥) → (other.end ≡ Done → ⊥) → (cond spent one other).end ≡ Done → ⊥
+bad_end : (spent : Bool) (one other : Ending) → (one.end.status ≡ Done → ⊥) → (other.end.status ≡ Done → ⊥) → (cond spent one other).end.status ≡ Done → ⊥
 bad_end true one other first second done = first done
 bad_end false one other first second done = second done
 
 goes_as : (book : BookView) (kind : LineKind) (lines : ℕ) (line : List ℕ) (others : AuditState → Ending) (due : Option (List ℕ)) → due_numbers book kind line ≡ due
-    → (read_as (audit_state book kind lines) line due others).end ≡ Done → Goes book kind lines line others
+    → (read_as (audit_state book kind lines) line due others).end.status ≡ Done → Goes book kind lines line others
 goes_as book kind lines line others None is done = absurd (bad_end (is_first kind && nat_le (2 ^ 28) book.quanta) _ _ (λ e. absurd (cc)) (λ e. absurd (cc)) done)
 goes_as book kind lines line others (Some numbers) is done =
     let parts = some_out (is_first kind && nat_le (2 ^ 28) book.quanta) (numbers_of_line kind book.shape.users line) numbers is in
     record { numbers = numbers; is_line = line_some kind book.shape.users line numbers parts.1; left = parts.0; on = done }
 
-goes : (book : BookView) (kind : LineKind) (lines : ℕ) (line : List ℕ) (others : AuditState → Ending) → (audit_one (audit_state book kind lines) line others).end ≡ Done → Goes book kind lines line others
+goes : (book : BookView) (kind : LineKind) (lines : ℕ) (line : List ℕ) (others : AuditState → Ending) → (audit_one (audit_state book kind lines) line others).end.status ≡ Done → Goes book kind lines line others
 goes book kind lines line others done = goes_as book kind lines line others (due_numbers book kind line) refl done
 
-compared_well : (test : Bool) (one other : Ending) → (other.end ≡ Done → ⊥) → (cond test one other).end ≡ Done → (test ≡ true) × (one.end ≡ Done)
+compared_well : (test : Bool) (one other : Ending) → (other.end.status ≡ Done → ⊥) → (cond test one other).end.status ≡ Done → (test ≡ true) × (one.end.status ≡ Done)
 compared_well true one other bad done = (refl, done)
 compared_well false one other bad done = absurd (bad done)
 
@@ -86,12 +84,12 @@ compared_well false one other bad done = absurd (bad done)
 record Same (book : BookView) (kind : LineKind) (lines : ℕ) (line : List ℕ) (others : AuditState → Ending) : Type 0 where
   line_is : line ≡ line_text kind (wanted kind book)
   left : (is_first kind && nat_le (2 ^ 28) book.quanta) ≡ false
-  on : (others (audit_state book (next_kind kind) (lines + 1))).end ≡ Done
+  on : (others (audit_state book (next_kind kind) (lines + 1))).end.status ≡ Done
 
-same : (book : BookView) (kind : LineKind) (lines : ℕ) (line : List ℕ) (others : AuditState → Ending) → (kind ≡ Demand → ⊥) → (audit_one (audit_state book kind lines) line others).end ≡ Done → Same book kind lines line others
+same : (book : BookView) (kind : LineKind) (lines : ℕ) (line : List ℕ) (others : AuditState → Ending) → (kind ≡ Demand → ⊥) → (audit_one (audit_state book kind lines) line others).end.status ≡ Done → Same book kind lines line others
 same book kind lines line others other done =
     let here = goes book kind lines line others done in
-    let on : (compared kind (audit_state book kind lines) line here.numbers others).end ≡ Done = subst (λ (ending : Ending). ending.end ≡ Done) (compared_one kind other (audit_state book kind lines) line here.numbers others) here.on in
+    let on : (compared kind (audit_state book kind lines) line here.numbers others).end.status ≡ Done = subst (λ (ending : Ending). ending.end.status ≡ Done) (compared_one kind other (audit_state book kind lines) line here.numbers others) here.on in
     let both = compared_well (bytes_eq here.numbers (wanted kind book)) _ _ (λ e. absurd (cc)) on in
     record {
       line_is = here.is_line.spelled ∙ ap (line_text kind) ((bytes_eq-Decides here.numbers (wanted kind book)).0 both.0);
@@ -100,18 +98,18 @@ same book kind lines line others other done =
     }
 
 -- the lines of a log from this book on
-record IsLogFrom (book : BookView) (lines : List (List ℕ)) : Type 0 where
-  quanta : List (List ℕ)
-  many : book.quanta + length quanta ≤ 2 ^ 28
-  users : All (λ demands. length demands ≡ book.shape.users) quanta
-  within : All (λ demands. All (λ demand. demand ≤ 2 ^ 42) demands) quanta
-  lines_are : lines ≡ log_lines book quanta
+pub record IsLogFrom (book : BookView) (lines : List (List ℕ)) : Type 0 where
+  pub quanta : List (List ℕ)
+  pub many : book.quanta + length quanta ≤ 2 ^ 28
+  pub users : All (λ demands. length demands ≡ book.shape.users) quanta
+  pub within : All (λ demands. All (λ demand. demand ≤ 2 ^ 42) demands) quanta
+  pub lines_are : lines ≡ log_lines book quanta
 
-no_quanta : (book : BookView) → book.quanta ≤ 2 ^ 28 → IsLogFrom book []
+pub no_quanta : (book : BookView) → book.quanta ≤ 2 ^ 28 → IsLogFrom book []
 unfolding log_lines
 no_quanta book most = record { quanta = []; many = omega arith; users = All-nil (λ (demands : List ℕ). length demands ≡ book.shape.users); within = All-nil (λ (demands : List ℕ). All (λ demand. demand ≤ 2 ^ 42) demands); lines_are = refl }
 
-one_quantum : (book : BookView) (demands l1 l2 l3 l4 : List ℕ) (ls : List (List ℕ)) → IsLine Demand book.shape.users l2 demands
+pub one_quantum : (book : BookView) (demands l1 l2 l3 l4 : List ℕ) (ls : List (List ℕ)) → IsLine Demand book.shape.users l2 demands
     → l1 ≡ line_text Quantum (wanted Quantum book) → l3 ≡ line_text Slices (wanted Slices (after_demands book demands)) → l4 ≡ line_text Credits (wanted Credits (after_demands book demands))
     → IsLogFrom (after_demands book demands) ls → IsLogFrom book (l1 ∷ l2 ∷ l3 ∷ l4 ∷ ls)
 unfolding log_lines
@@ -123,13 +121,13 @@ one_quantum book demands l1 l2 l3 l4 ls d e1 e3 e4 rest = record {
   lines_are = let e2 = d.spelled in let e = rest.lines_are in cc;
 }
 
-over_bad : (book : BookView) (kind : LineKind) (lines : ℕ) → (kind ≡ Quantum → ⊥) → (audit_over (audit_state book kind lines)).end ≡ Done → ⊥
+over_bad : (book : BookView) (kind : LineKind) (lines : ℕ) → (kind ≡ Quantum → ⊥) → (audit_over (audit_state book kind lines)).end.status ≡ Done → ⊥
 over_bad book Quantum lines other done = other refl
 over_bad book Demand lines other done = cc
 over_bad book Slices lines other done = cc
 over_bad book Credits lines other done = cc
 
-log_from : (lines : List (List ℕ)) (book : BookView) (number : ℕ) → book.quanta ≤ 2 ^ 28 → (audit_end (audit_state book Quantum number) lines).end ≡ Done → IsLogFrom book lines
+pub log_from : (lines : List (List ℕ)) (book : BookView) (number : ℕ) → book.quanta ≤ 2 ^ 28 → (audit_end (audit_state book Quantum number) lines).end.status ≡ Done → IsLogFrom book lines
 unfolding audit_end
 log_from [] book number most done = no_quanta book most
 log_from (l1 ∷ []) book number most done =
@@ -155,7 +153,7 @@ log_from (l1 ∷ l2 ∷ l3 ∷ l4 ∷ ls) book number most done =
     one_quantum book two.numbers l1 l2 l3 l4 ls two.is_line one.line_is three.line_is four.line_is
     (log_from ls book2 (number + 1 + 1 + 1 + 1) most2 four.on)
 
-from_opening : (shape : Shape) (lines : List (List ℕ)) → IsLogFrom (opening_book shape) lines → IsKarmaLog shape lines
+pub from_opening : (shape : Shape) (lines : List (List ℕ)) → IsLogFrom (opening_book shape) lines → IsKarmaLog shape lines
 from_opening shape lines log = record {
   quanta = log.quanta;
   many = let most : 0 + length log.quanta ≤ 2 ^ 28 = log.many in omega arith;
@@ -165,7 +163,7 @@ from_opening shape lines log = record {
 }
 
 -- what is accepted is a log of Karma
-pub accepts : (shape : Shape) (lines : List (List ℕ)) → (audited shape lines).end ≡ Done → IsKarmaLog shape lines
+pub accepts : (shape : Shape) (lines : List (List ℕ)) → (audited shape lines).end.status ≡ Done → IsKarmaLog shape lines
 accepts shape lines done = from_opening shape lines (log_from lines (opening_book shape) 0 (omega arith) done)
 
 -- ---- and a log of Karma is accepted
@@ -185,7 +183,7 @@ word_short Demand = omega arith
 word_short Slices = omega arith
 word_short Credits = omega arith
 
-line_fits : (kind : LineKind) (numbers : List ℕ) → length numbers ≤ 1024 → All (λ n. n ≤ limit_of kind) numbers → length (line_text kind numbers) ≤ 262144
+line_fits : (kind : LineKind) (numbers : List ℕ) → length numbers ≤ 1024 → All (λ n. n ≤ limit_of kind) numbers → length (line_text kind numbers) ≤ MOST_LINE
 unfolding line_text
 line_fits kind numbers few within =
     let word : length (word_of kind) ≤ 7 = word_short kind in
@@ -193,14 +191,14 @@ line_fits kind numbers few within =
     let long : length (word_of kind ++ spaced numbers) ≡ length (word_of kind) + length (spaced numbers) = length-append (word_of kind) (spaced numbers) in
     omega arith
 
-due_good : (book : BookView) (kind : LineKind) (numbers : List ℕ) → length numbers ≤ 1024 → length numbers ≡ count_of kind book.shape.users → All (λ n. n ≤ limit_of kind) numbers
+pub due_good : (book : BookView) (kind : LineKind) (numbers : List ℕ) → length numbers ≤ 1024 → length numbers ≡ count_of kind book.shape.users → All (λ n. n ≤ limit_of kind) numbers
     → (is_first kind && nat_le (2 ^ 28) book.quanta) ≡ false → due_numbers book kind (line_text kind numbers) ≡ Some numbers
 due_good book kind numbers few many within left =
     due_left book kind (line_text kind numbers) false (sym left) refl
     ∙ line_good kind book.shape.users (line_text kind numbers) numbers (line_fits kind numbers few within) (record { spelled = refl; many = many; within = within })
 
 -- the line that is wanted passes
-passes : (book : BookView) (kind : LineKind) (lines : ℕ) (numbers : List ℕ) (others : AuditState → Ending) → (kind ≡ Demand → ⊥) → numbers ≡ wanted kind book → due_numbers book kind (line_text kind numbers) ≡ Some numbers
+pub passes : (book : BookView) (kind : LineKind) (lines : ℕ) (numbers : List ℕ) (others : AuditState → Ending) → (kind ≡ Demand → ⊥) → numbers ≡ wanted kind book → due_numbers book kind (line_text kind numbers) ≡ Some numbers
     → audit_one (audit_state book kind lines) (line_text kind numbers) others ≡ others (audit_state book (next_kind kind) (lines + 1))
 passes book kind lines numbers others other is due =
     one_good book kind lines (line_text kind numbers) numbers due others
@@ -208,7 +206,7 @@ passes book kind lines numbers others other is due =
     ∙ cond-true _ _ _ ((bytes_eq-Decides numbers (wanted kind book)).1 is)
 
 -- the rows with their demands
-demands_long : (demands : List ℕ) (rows : List Row) → length (with_demands demands rows) ≡ length rows
+pub demands_long : (demands : List ℕ) (rows : List Row) → length (with_demands demands rows) ≡ length rows
 demands_long [] rows = refl
 demands_long (d ∷ ds) [] = refl
 demands_long (d ∷ ds) (row ∷ rows) = ap suc (demands_long ds rows)
@@ -237,19 +235,19 @@ module _ (book : BookView) (demands : List ℕ) (inside : IsBook book.shape book
     credits = credits_low (book.shape.credits + book.quanta * book.shape.share.fair) demands book.rows inside.credits;
   }
 
-  its_laws : KeepsLaws (with_demands demands book.rows) (karma (with_demands demands book.rows) book.shape.share) book.shape.share
+  pub its_laws : MakesQuantum (with_demands demands book.rows) (karma (with_demands demands book.rows) book.shape.share) book.shape.share
   its_laws = karma_keeps (with_demands demands book.rows) (karma (with_demands demands book.rows) book.shape.share) book.shape.share inside.plan.floor refl
 
-  inside_next : IsBook book.shape (book.quanta + 1) (karma (with_demands demands book.rows) book.shape.share)
+  pub inside_next : IsBook book.shape (book.quanta + 1) (karma (with_demands demands book.rows) book.shape.share)
   inside_next = one_more book.shape book.quanta (with_demands demands book.rows) (karma (with_demands demands book.rows) book.shape.share) more demanded
-      (next_from_paid book.shape.share (with_demands demands book.rows) (karma (with_demands demands book.rows) book.shape.share) its_laws.demands its_laws.paid)
+      (next_of_quantum book.shape.share (with_demands demands book.rows) (karma (with_demands demands book.rows) book.shape.share) its_laws)
 
-most_credits : (shape : Shape) (made : ℕ) → IsPlan shape → made ≤ 2 ^ 28 → shape.credits + made * shape.share.fair ≤ 2 ^ 64 - 1
+pub most_credits : (shape : Shape) (made : ℕ) → IsPlan shape → made ≤ 2 ^ 28 → shape.credits + made * shape.share.fair ≤ 2 ^ 64 - 1
 most_credits shape made plan quanta =
     let product : made * shape.share.fair ≤ 2 ^ 28 * 2 ^ 32 = mul-le made shape.share.fair (2 ^ 28) (2 ^ 32) quanta plan.fair.1 in
     omega (arith, plan.credits)
 
-slices_within : (rows : List Row) → All (λ row. row.demand ≤ 2 ^ 42) rows → All (λ row. row.given ≤ row.demand) rows → All (λ n. n ≤ 2 ^ 64 - 1) (map (λ (row : Row). row.given) rows)
+pub slices_within : (rows : List Row) → All (λ row. row.demand ≤ 2 ^ 42) rows → All (λ row. row.given ≤ row.demand) rows → All (λ n. n ≤ 2 ^ 64 - 1) (map (λ (row : Row). row.given) rows)
 slices_within [] low given = All-nil (λ n. n ≤ 2 ^ 64 - 1)
 slices_within (row ∷ rows) low given =
     let demand : row.demand ≤ 2 ^ 42 = All-head (λ (r : Row). r.demand ≤ 2 ^ 42) row rows low in
@@ -257,7 +255,7 @@ slices_within (row ∷ rows) low given =
     All-cons (λ n. n ≤ 2 ^ 64 - 1) row.given (map (λ (r : Row). r.given) rows) (omega arith)
     (slices_within rows (All-tail (λ (r : Row). r.demand ≤ 2 ^ 42) row rows low) (All-tail (λ (r : Row). r.given ≤ r.demand) row rows given))
 
-credits_within : (most : ℕ) (rows : List Row) → most ≤ 2 ^ 64 - 1 → All (λ row. row.credits ≤ most) rows → All (λ n. n ≤ 2 ^ 64 - 1) (map (λ (row : Row). row.credits) rows)
+pub credits_within : (most : ℕ) (rows : List Row) → most ≤ 2 ^ 64 - 1 → All (λ row. row.credits ≤ most) rows → All (λ n. n ≤ 2 ^ 64 - 1) (map (λ (row : Row). row.credits) rows)
 credits_within most rows high low = All-map (λ n. n ≤ 2 ^ 64 - 1) (λ (row : Row). row.credits) rows
     (All-weaker (λ (row : Row). row.credits ≤ most) (λ (row : Row). row.credits ≤ 2 ^ 64 - 1) (λ row here. omega arith) rows low)
 
@@ -286,18 +284,18 @@ block_passes book demands number lines inside more long low =
     (due_good next Credits (wanted Credits next) (omega arith) credits_many credits_in refl)
 
 all_pass : (quanta : List (List ℕ)) (book : BookView) (number : ℕ) → IsBook book.shape book.quanta book.rows → book.quanta + length quanta ≤ 2 ^ 28
-    → All (λ demands. length demands ≡ book.shape.users) quanta → All (λ demands. All (λ demand. demand ≤ 2 ^ 42) demands) quanta → (audit_end (audit_state book Quantum number) (log_lines book quanta)).end ≡ Done
+    → All (λ demands. length demands ≡ book.shape.users) quanta → All (λ demands. All (λ demand. demand ≤ 2 ^ 42) demands) quanta → (audit_end (audit_state book Quantum number) (log_lines book quanta)).end.status ≡ Done
 unfolding audit_end log_lines
 all_pass [] book number inside many users within = refl
 all_pass (demands ∷ quanta) book number inside many users within =
     let long : length demands ≡ book.shape.users = All-head (λ (ds : List ℕ). length ds ≡ book.shape.users) demands quanta users in
     let low : All (λ demand. demand ≤ 2 ^ 42) demands = All-head (λ (ds : List ℕ). All (λ demand. demand ≤ 2 ^ 42) ds) demands quanta within in
     let more : book.quanta < 2 ^ 28 = omega arith in
-    ap (λ (ending : Ending). ending.end) (block_passes book demands number (log_lines (after_demands book demands) quanta) inside more long low)
+    ap (λ (ending : Ending). ending.end.status) (block_passes book demands number (log_lines (after_demands book demands) quanta) inside more long low)
     ∙ all_pass quanta (after_demands book demands) (number + 1 + 1 + 1 + 1) (inside_next book demands inside low more) (omega arith)
     (All-tail (λ (ds : List ℕ). length ds ≡ book.shape.users) demands quanta users) (All-tail (λ (ds : List ℕ). All (λ demand. demand ≤ 2 ^ 42) ds) demands quanta within)
 
-opens : (shape : Shape) → IsPlan shape → IsBook shape 0 (replicate shape.users (opening_row shape))
+pub opens : (shape : Shape) → IsPlan shape → IsBook shape 0 (replicate shape.users (opening_row shape))
 opens shape plan = record {
   plan = plan;
   users = length-replicate shape.users (opening_row shape);
@@ -307,23 +305,8 @@ opens shape plan = record {
 }
 
 -- a log of Karma is accepted
-pub accepted : (shape : Shape) (lines : List (List ℕ)) → IsPlan shape → IsKarmaLog shape lines → (audited shape lines).end ≡ Done
+pub accepted : (shape : Shape) (lines : List (List ℕ)) → IsPlan shape → IsKarmaLog shape lines → (audited shape lines).end.status ≡ Done
 accepted shape lines plan log =
     let many : length log.quanta ≤ 2 ^ 28 = log.many in
-    ap (λ (ls : List (List ℕ)). (audited shape ls).end) log.lines_are
+    ap (λ (ls : List (List ℕ)). (audited shape ls).end.status) log.lines_are
     ∙ all_pass log.quanta (opening_book shape) 0 (opens shape plan) (omega arith) log.users log.within
-
-done_of : (end : RunEnd) → status_of end ≡ 0 → end ≡ Done
-done_of Done none = refl
-done_of BadLine none = absurd (omega arith)
-done_of ReadFault none = absurd (omega arith)
-done_of Spent none = absurd (omega arith)
-done_of NotKarma none = absurd (omega arith)
-
--- both by the status of a run
-module _ (shape : Shape) (input : Option (List ℕ)) (status : ℕ) (ends : IsWhole status → EndsAs input (audited shape) status) where
-  pub accepts_status : status ≡ 0 → (bytes : List ℕ) → input ≡ Some bytes → IsKarmaLog shape (lines_of bytes)
-  accepts_status none bytes told = accepts shape (lines_of bytes) (done_of (audited shape (lines_of bytes)).end (ends (inl none) bytes told ∙ none))
-
-  pub accepted_status : IsPlan shape → IsWhole status → (bytes : List ℕ) → input ≡ Some bytes → IsKarmaLog shape (lines_of bytes) → status ≡ 0
-  accepted_status plan whole bytes told log = sym (ends whole bytes told) ∙ ap status_of (accepted shape (lines_of bytes) plan log)

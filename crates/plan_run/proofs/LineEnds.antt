@@ -1,25 +1,22 @@
 -- What one line of input brings.
-use Rattle.std.proofs.Common.{◌≡◌, ℕ, ◌+◌, ◌<◌, ◌≤◌, ◌^◌, Bool, true, false, List, length, Option, Some, None, Result, Ok, Err, MatchOption, is_err, OnOk, refl, sym, ◌∙◌, ap, subst, [], ◌∷◌, append-nil}
+use Rattle.std.proofs.Common.{◌≡◌, ℕ, ◌+◌, ◌<◌, ◌≤◌, ◌^◌, Bool, true, false, List, length, Option, Some, None, Result, Ok, Err, MatchOption, is_err, OnOk, refl, sym, ◌∙◌, ap, [], ◌∷◌}
 use Rattle.std.proofs.lemmas.Bool.{cond-true, cond-false, le-leb, lt-leb, true≢false}
-use Rattle.far_io.specs.Adds.{Adds, AddsPrefix}
 use Rattle.far_io.specs.Words.{words_of}
-use Rattle.far_io.specs.declared.put.WriteFault.{WriteFault}
 use Rattle.karma_rule.specs.declared.row.Row.{Row}
 use Rattle.demand_book.specs.Book.{BookView, ticked}
 use Rattle.demand_book.specs.declared.report.Report.{Report}
 use Rattle.quantum_text.specs.Block.{report_text}
-use Rattle.plan_run.specs.declared.run_end.RunEnd.{RunEnd}
-use Rattle.plan_run.specs.declared.run_end.RunEnd.TheVariants.{Done, BadLine, Spent}
-use Rattle.plan_run.specs.Ending.{Ending, after_text}
-use Rattle.plan_run.specs.LastLines.{bad_line, spent_line}
-use Rattle.plan_run.specs.PlanText.{rows_of_words, rows_of_line, line_end, plan_end}
-use Rattle.plan_run.specs.Steps.{Ends, BreaksOff, Steps}
+use Rattle.run_end.specs.declared.TheConstants.{MOST_LINE}
+use Rattle.run_end.specs.declared.status.Status.TheVariants.{BadLine, Spent}
+use Rattle.run_end.specs.LastLines.{bad_line, spent_line}
+use Rattle.plan_run.specs.Ending.{Ending, ends_as, ends_at, after_text}
+use Rattle.plan_run.specs.PlanText.{rows_of_words, rows_of_line, line_end, plan_one, plan_over, plan_end}
 
-pub rows_fit : (rows : List Row) (line : List ℕ) → length line ≤ 262144 → rows_of_line rows line ≡ rows_of_words (words_of line) rows
-rows_fit rows line fits = cond-true _ _ _ (le-leb (length line) 262144 fits)
+pub rows_fit : (rows : List Row) (line : List ℕ) → length line ≤ MOST_LINE → rows_of_line rows line ≡ rows_of_words (words_of line) rows
+rows_fit rows line fits = cond-true _ _ _ (le-leb (length line) MOST_LINE fits)
 
-pub rows_long : (rows : List Row) (line : List ℕ) → 262144 < length line → rows_of_line rows line ≡ None
-rows_long rows line long = cond-false _ _ _ (lt-leb (length line) 262144 long)
+pub rows_long : (rows : List Row) (line : List ℕ) → MOST_LINE < length line → rows_of_line rows line ≡ None
+rows_long rows line long = cond-false _ _ _ (lt-leb (length line) MOST_LINE long)
 
 pub words_bad : (rows : Option (List Row)) (good : Bool) (book now : BookView) → MatchOption rows (good ≡ false) (λ rs. (good ≡ true) × (now ≡ record book { rows = rs })) → good ≡ false → rows ≡ None
 words_bad None good book now told bad = refl
@@ -35,10 +32,10 @@ no_error (Ok _) fine fact = fact
 no_error (Err _) failed fact = absurd (true≢false failed)
 
 module _ (book : BookView) (rows : Option (List Row)) (others : BookView → Ending) where
-  pub bad_end : rows ≡ None → line_end book rows others ≡ record { text = bad_line (book.quanta + 1); end = BadLine }
+  pub bad_end : rows ≡ None → line_end book rows others ≡ record { text = bad_line (book.quanta + 1); end = ends_at BadLine (book.quanta + 1) }
   bad_end bad = ap (λ rs. line_end book rs others) bad
 
-  pub spent_end : (rs : List Row) → rows ≡ Some rs → 2 ^ 28 ≤ book.quanta → line_end book rows others ≡ record { text = spent_line; end = Spent }
+  pub spent_end : (rs : List Row) → rows ≡ Some rs → 2 ^ 28 ≤ book.quanta → line_end book rows others ≡ record { text = spent_line; end = ends_as Spent }
   spent_end rs good spent = ap (λ r. line_end book r others) good ∙ cond-true _ _ _ (le-leb (2 ^ 28) book.quanta spent)
 
   pub good_end : (rs : List Row) (next : BookView) (report : Report) → rows ≡ Some rs → book.quanta < 2 ^ 28 → next ≡ ticked (record book { rows = rs })
@@ -47,24 +44,7 @@ module _ (book : BookView) (rows : Option (List Row)) (others : BookView → End
       ∙ ap (λ (n : BookView). after_text (report_text (record { quantum = book.quanta; rows = n.rows })) (others n)) (sym is_next)
       ∙ ap (λ (r : Report). after_text (report_text r) (others next)) (sym is_report)
 
-module _ {O : Type 0} (took : O → List ℕ → Type 0) (before now : O) (ending : (BookView → Ending) → Ending) where
-  pub step_fault : (next : BookView) (result : Result (Option RunEnd) WriteFault) (fault : WriteFault) → result ≡ Err fault → BreaksOff took before now ending → Steps took before now ending next result
-  step_fault next result fault failed breaks = subst (Steps took before now ending next) (sym failed) breaks
-
-  abbrev pub ends : (last : Ending) → ((others : BookView → Ending) → ending others ≡ last) → Adds took before now last.text → Ends took before now ending last.end
-  ends last is_last adds = record { last = last; is_end = refl; adds = adds; step = is_last }
-
-  abbrev pub breaks : (last : Ending) → ((others : BookView → Ending) → ending others ≡ last) → AddsPrefix took before now last.text → BreaksOff took before now ending
-  breaks last is_last adds = record { text = last.text; adds = adds; step = λ others. ([], ap (λ (e : Ending). e.text) (is_last others) ∙ sym (append-nil last.text)) }
-
-  abbrev pub breaks_within : (text : List ℕ) (next : BookView) → ((others : BookView → Ending) → ending others ≡ after_text text (others next)) → AddsPrefix took before now text → BreaksOff took before now ending
-  breaks_within text next goes adds = record { text = text; adds = adds; step = λ others. ((others next).text, ap (λ (e : Ending). e.text) (goes others)) }
-
--- what a line brings, over what the lines after it bring
-abbrev pub plan_one : BookView → List ℕ → (BookView → Ending) → Ending
-plan_one book line = line_end book (rows_of_line book.rows line)
-
-pub plan_nothing : (book : BookView) → plan_end book [] ≡ record { text = []; end = Done }
+pub plan_nothing : (book : BookView) → plan_end book [] ≡ plan_over book
 unfolding plan_end
 plan_nothing book = refl
 

@@ -1,5 +1,5 @@
 -- What `audit` writes for the lines of its input, and how it ends.
-use Rattle.std.specs.Prelude.{◌≡◌, ℕ, ◌+◌, ◌*◌, ◌^◌, ◌<◌, nat_eq, nat_le, Bool, true, false, ◌&&◌, if◌then◌else◌, List, [], ◌∷◌, ◌++◌, length, map, drop, Some, None, codes, decimal}
+use Rattle.std.specs.Prelude.{◌≡◌, ℕ, ◌+◌, ◌*◌, ◌<◌, nat_eq, nat_le, Bool, true, false, ◌&&◌, if◌then◌else◌, List, [], ◌∷◌, ◌++◌, length, map, drop, Some, None, codes, decimal}
 use Rattle.std.specs.declared.option.Option.{Option}
 use Rattle.std.specs.List.{list_all}
 use Rattle.std.specs.Str.{bytes_eq}
@@ -12,9 +12,11 @@ use Rattle.quantum_text.specs.declared.line_kind.LineKind.{LineKind}
 use Rattle.quantum_text.specs.declared.line_kind.LineKind.TheVariants.{Quantum, Demand, Slices, Credits}
 use Rattle.quantum_text.specs.LineKind.{limit_of, count_of, numbers_of}
 use Rattle.quantum_text.specs.Block.{line_text, ended_line}
-use Rattle.plan_run.specs.declared.run_end.RunEnd.TheVariants.{Done, BadLine, Spent, NotKarma}
-use Rattle.plan_run.specs.Ending.{Ending}
-use Rattle.plan_run.specs.LastLines.{bad_line, spent_line}
+use Rattle.run_end.specs.declared.TheConstants.{MOST_LINE}
+use Rattle.run_end.specs.declared.status.Status.TheVariants.{Done, BadLine, Spent, NotKarma}
+use Rattle.run_end.specs.LastLines.{bad_line, spent_line}
+use Rattle.demand_book.specs.declared.book.TheConstants.{QUANTA}
+use Rattle.plan_run.specs.Ending.{Ending, ends_as, ends_at}
 
 -- after so many blocks
 unfoldable pub ok_line : ℕ → List ℕ
@@ -36,9 +38,9 @@ numbers_read kind users line =
     let numbers = map value_of (drop 1 (words_of line)) in
     if bytes_eq line (line_text kind numbers) && nat_eq (length numbers) (count_of kind users) && list_all (λ n. nat_le n (limit_of kind)) numbers then Some numbers else None
 
--- A line of a log has at most 262144 bytes.
+-- no line is longer than the limit
 abbrev pub numbers_of_line : LineKind → ℕ → List ℕ → Option (List ℕ)
-numbers_of_line kind users line = if nat_le (length line) 262144 then numbers_read kind users line else None
+numbers_of_line kind users line = if nat_le (length line) MOST_LINE then numbers_read kind users line else None
 
 -- the book, whose quantum is made once the demands were read; the kind of line that is due; and how many lines were read
 pub record AuditState : Type 0 where
@@ -52,7 +54,7 @@ audit_state book kind lines = record { book = book; kind = kind; lines = lines }
 -- how many lines were read, by the quanta made; where demands are due, a quantum is left for them
 abbrev pub IsAt : LineKind → ℕ → ℕ → Type 0
 IsAt Quantum lines quanta = lines ≡ 4 * quanta
-IsAt Demand lines quanta = (lines ≡ 4 * quanta + 1) × (quanta < 2 ^ 28)
+IsAt Demand lines quanta = (lines ≡ 4 * quanta + 1) × (quanta < QUANTA)
 IsAt Slices lines quanta = lines + 2 ≡ 4 * quanta
 IsAt Credits lines quanta = lines + 1 ≡ 4 * quanta
 
@@ -90,16 +92,16 @@ after_demands book demands = ticked (record book { rows = with_demands demands b
 -- a line that is none of the kind that is due; after the last quantum any line ends the run
 abbrev pub bad_ending : BookView → LineKind → ℕ → Ending
 bad_ending book kind lines =
-    if is_first kind && nat_le (2 ^ 28) book.quanta
-    then record { text = spent_line; end = Spent }
-    else record { text = bad_line (lines + 1); end = BadLine }
+    if is_first kind && nat_le QUANTA book.quanta
+    then record { text = spent_line; end = ends_as Spent }
+    else record { text = bad_line (lines + 1); end = ends_at BadLine (lines + 1) }
 
 -- a line that has these numbers: any demands are taken, and make a quantum; all else is compared
 abbrev pub compared : LineKind → AuditState → List ℕ → List ℕ → (AuditState → Ending) → Ending
 compared kind state line numbers others =
     if bytes_eq numbers (wanted kind state.book)
     then others (record { book = state.book; kind = next_kind kind; lines = state.lines + 1 })
-    else record { text = not_karma (state.lines + 1) kind (wanted kind state.book) line; end = NotKarma }
+    else record { text = not_karma (state.lines + 1) kind (wanted kind state.book) line; end = ends_at NotKarma (state.lines + 1) }
 
 abbrev pub judged : LineKind → AuditState → List ℕ → List ℕ → (AuditState → Ending) → Ending
 judged Quantum state line numbers others = compared Quantum state line numbers others
@@ -109,7 +111,7 @@ judged Credits state line numbers others = compared Credits state line numbers o
 
 -- the numbers of the line that is due; None where it is none of that kind, and where no quantum is left
 abbrev pub due_numbers : BookView → LineKind → List ℕ → Option (List ℕ)
-due_numbers book kind line = if is_first kind && nat_le (2 ^ 28) book.quanta then None else numbers_of_line kind book.shape.users line
+due_numbers book kind line = if is_first kind && nat_le QUANTA book.quanta then None else numbers_of_line kind book.shape.users line
 
 abbrev pub read_as : AuditState → List ℕ → Option (List ℕ) → (AuditState → Ending) → Ending
 read_as state line None others = bad_ending state.book state.kind state.lines
@@ -123,8 +125,8 @@ audit_one state line others = read_as state line (due_numbers state.book state.k
 abbrev pub audit_over : AuditState → Ending
 audit_over state =
     if is_first state.kind
-    then record { text = ok_line state.book.quanta; end = Done }
-    else record { text = bad_line (state.lines + 1); end = BadLine }
+    then record { text = ok_line state.book.quanta; end = ends_as Done }
+    else record { text = bad_line (state.lines + 1); end = ends_at BadLine (state.lines + 1) }
 
 unfoldable pub audit_end : AuditState → List (List ℕ) → Ending
 audit_end state [] = audit_over state

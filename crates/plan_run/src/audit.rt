@@ -1,29 +1,29 @@
-ghost use Rattle.std.specs.Prelude.{◌≡◌, ◌≢◌, ℕ, ◌+◌, ◌-◌, ◌*◌, ◌<◌, ◌≤◌, ◌^◌, ◌&&◌, nat_le, List, length, All, Ok, Err, Some, None, true, false, IfOk, OnErr, OnOk, IfSome, MatchOption, ◌⊎◌, ◌∷◌, ◌++◌, [], Contains};
+//! `audit`: quantum blocks, judged by the rule.
+
+ghost use Rattle.std.specs.Prelude.{◌≡◌, ◌≢◌, ◌+◌, ◌-◌, ◌<◌, ◌≤◌, ◌^◌, ◌&&◌, ◌⊎◌, nat_le, length, All, Ok, None, true, false, IfOk, MatchOption};
 ghost use Rattle.std.specs.Bool.{OnTrue};
 ghost use Rattle.std.specs.Str.{bytes_eq};
-ghost use Rattle.far_io.specs.Faults.{Rose, Follows, HasCause};
-ghost use Rattle.far_io.specs.Left.{in_front, IsAtEnd};
-ghost use Rattle.far_io.specs.Adds.{Adds, AddsPrefix};
-ghost use Rattle.far_io.specs.Lines.{lines_of};
+ghost use Rattle.karma_rule.specs.declared.limits.TheConstants.{MOST_DEMAND};
 ghost use Rattle.karma_rule.specs.Limits.{IsPlan};
 ghost use Rattle.quantum_text.specs.declared.line_kind.LineKind.TheVariants.{Quantum, Demand};
 ghost use Rattle.quantum_text.specs.LineKind.{numbers_of, limit_of};
-ghost use Rattle.plan_run.specs.AuditText.{next_kind, is_first, after_demands, audit_one, audit_end, audited, audit_state, bad_ending, due_numbers, compared, audit_over, IsAt, IsMade, ok_line, wanted_text, read_text, not_karma};
-ghost use Rattle.plan_run.specs.KarmaLog.{IsKarmaLog};
-ghost use Rattle.plan_run.specs.Steps.{Steps};
-ghost use Rattle.plan_run.specs.Status.{IsWhole};
-ghost use Rattle.plan_run.specs.Writes.{Writes, WritesText, EndsAs, WritesPrefix};
+ghost use Rattle.run_end.specs.declared.TheConstants.{MOST_LINE};
+ghost use Rattle.run_end.specs.Status.{code_of};
+ghost use Rattle.run_end.specs.Why.{status_of, end_of, EndsWith};
+ghost use Rattle.run_end.specs.LastLines.{last_line};
+ghost use Rattle.line_run.specs.Runs.{reading};
+ghost use Rattle.plan_run.specs.AuditText.{next_kind, is_first, after_demands, audit_state, bad_ending, due_numbers, wanted, IsAt, IsMade};
+ghost use Rattle.plan_run.specs.Runs.{IsAudited};
 
-use crate::last_lines::{put_bad_line, put_spent};
-use crate::plan::MOST_LINE;
-use crate::run_end::{NO_MEMORY, RunEnd, WRITE_FAULT};
+use crate::audit_last::{put_not_karma, put_ok};
+use crate::line_fault::numbers_fault;
 use demand_book::{Book, QUANTA, Report};
-use far_io::{
-    LineBuf, LineEnd, Piece, Sink, Source, WriteFault, flush, push_decimal, put_all, read_line,
-};
+use far_io::{LineBuf, Sink, Source, WriteFault, WriteRoom, split_word};
 use karma_rule::Shape;
-use quantum_text::{LineKind, parse_block_line, put_block_line};
-use std::alloc::Global;
+use line_run::{LineTaker, run_lines};
+use quantum_text::{LineKind, parse_block_line};
+use run_end::{DueLine, LineFault, MOST_LINE, Status, Why, put_last_line};
+use std::alloc::{AllocError, Global};
 
 // The kind of line that comes after this one.
 fn kind_after(kind: LineKind) -> LineKind
@@ -54,8 +54,8 @@ fn same_numbers(kind: LineKind, read: &Report, wanted: &Report) -> bool
 fn take_demands(book: &mut Book, read: &Report, wanted: &mut Report)
     requires rows { length read.now.rows ≡ book.old.shape.users }
     requires wanted { length wanted.old.rows ≡ book.old.shape.users }
-    requires demands { All (λ demand. demand ≤ 2 ^ 42) (numbers_of Demand read.now) }
-    requires more { book.old.quanta < 2 ^ 28 }
+    requires demands { All (λ demand. demand ≤ MOST_DEMAND) (numbers_of Demand read.now) }
+    requires more { book.old.quanta < QUANTA }
     ensures book { book.new ≡ after_demands book.old (numbers_of Demand read.now) }
     ensures wanted { wanted.new.rows ≡ book.new.rows }
     ensures fits { length wanted.new.rows ≡ book.new.shape.users }
@@ -66,77 +66,9 @@ fn take_demands(book: &mut Book, read: &Report, wanted: &mut Report)
     let _made = book.tick(wanted);
 }
 
-// Writes the number of a line that isn't the one that is wanted, and the wanted line.
-fn put_wanted<O: Sink>(
-    sink: &mut O,
-    number: u64,
-    kind: LineKind,
-    wanted: &Report,
-) -> Result<(), WriteFault>
-    ensures all { OnOk result (Adds O.took sink.old sink.new (wanted_text number kind (numbers_of kind wanted.now))) }
-    ensures prefix { OnErr result (AddsPrefix O.took sink.old sink.new (wanted_text number kind (numbers_of kind wanted.now))) }
-    ensures cause { HasCause (O.faults sink.old) (O.faults sink.new) result }
-{
-    let mut piece = Piece::new();
-    piece.push_all(b"not karma line ");
-    push_decimal(&mut piece, number);
-    piece.push_all(b"\nwant ");
-    put_block_line(kind, wanted, sink, &mut piece)?;
-    flush(sink, &mut piece)
-}
-
-// Writes a line and its line end.
-fn put_ended<O: Sink>(sink: &mut O, line: &[u8]) -> Result<(), WriteFault>
-    ensures all { OnOk result (Adds O.took sink.old sink.new (line.now ++ 10 ∷ [])) }
-    ensures prefix { OnErr result (AddsPrefix O.took sink.old sink.new (line.now ++ 10 ∷ [])) }
-    ensures cause { HasCause (O.faults sink.old) (O.faults sink.new) result }
-{
-    put_all(sink, line)?;
-    put_all(sink, b"\n")
-}
-
-// Writes the line that was read.
-fn put_read<O: Sink>(sink: &mut O, line: &[u8]) -> Result<(), WriteFault>
-    ensures all { OnOk result (Adds O.took sink.old sink.new (read_text line.now)) }
-    ensures prefix { OnErr result (AddsPrefix O.took sink.old sink.new (read_text line.now)) }
-    ensures cause { HasCause (O.faults sink.old) (O.faults sink.new) result }
-{
-    put_all(sink, b"read ")?;
-    put_ended(sink, line)
-}
-
-// Writes the three lines for a line that isn't the one that is wanted.
-fn put_not_karma<O: Sink>(
-    sink: &mut O,
-    number: u64,
-    kind: LineKind,
-    wanted: &Report,
-    line: &[u8],
-) -> Result<(), WriteFault>
-    ensures all { OnOk result (Adds O.took sink.old sink.new (not_karma number kind (numbers_of kind wanted.now) line.now)) }
-    ensures prefix { OnErr result (AddsPrefix O.took sink.old sink.new (not_karma number kind (numbers_of kind wanted.now) line.now)) }
-    ensures cause { HasCause (O.faults sink.old) (O.faults sink.new) result }
-{
-    put_wanted(sink, number, kind, wanted)?;
-    put_read(sink, line)
-}
-
-// Writes the count of blocks of a good log.
-fn put_ok<O: Sink>(sink: &mut O, blocks: u64) -> Result<(), WriteFault>
-    ensures all { OnOk result (Adds O.took sink.old sink.new (ok_line blocks)) }
-    ensures prefix { OnErr result (AddsPrefix O.took sink.old sink.new (ok_line blocks)) }
-    ensures cause { HasCause (O.faults sink.old) (O.faults sink.new) result }
-{
-    let mut piece = Piece::new();
-    piece.push_all(b"ok ");
-    push_decimal(&mut piece, blocks);
-    piece.push(b'\n');
-    flush(sink, &mut piece)
-}
-
 // Whether a block would begin here, and no quantum is left for it.
 fn is_spent(book: &Book, kind: LineKind) -> bool
-    ensures { result ≡ (is_first kind && nat_le (2 ^ 28) book.now.quanta) }
+    ensures { result ≡ (is_first kind && nat_le QUANTA book.now.quanta) }
 {
     match kind {
         LineKind::Quantum => book.quanta() >= QUANTA,
@@ -144,35 +76,14 @@ fn is_spent(book: &Book, kind: LineKind) -> bool
     }
 }
 
-// Ends a run at a line that is no line of the kind that is due. After the last quantum any line ends it so.
-fn end_at_bad_line<O: Sink>(
-    book: &Book,
-    kind: LineKind,
-    number: u64,
-    sink: &mut O,
-) -> Result<RunEnd, WriteFault>
-    requires { number < 2 ^ 32 }
-    ensures stops { IfOk result (λ end. (end ≢ RunEnd.Done) × (end ≢ RunEnd.ReadFault)) }
-    ensures all { IfOk result (λ end. (bad_ending book.now kind number).end ≡ end) }
-    ensures text { OnOk result (Adds O.took sink.old sink.new (bad_ending book.now kind number).text) }
-    ensures prefix { OnErr result (AddsPrefix O.took sink.old sink.new (bad_ending book.now kind number).text) }
-    ensures cause { HasCause (O.faults sink.old) (O.faults sink.new) result }
-{
-    if is_spent(book, kind) {
-        put_spent(sink)?;
-        return Ok(RunEnd::Spent);
-    }
-    put_bad_line(sink, number + 1)?;
-    Ok(RunEnd::BadLine)
-}
-
 // Reads the line that is due into the report, and says whether it is one of that kind and a quantum is left.
-fn take_line(book: &Book, kind: LineKind, line: &[u8], read: &mut Report) -> bool
+fn read_due(book: &Book, kind: LineKind, line: &[u8], read: &mut Report) -> bool
     requires rows { length read.old.rows ≡ book.now.shape.users }
-    requires fits { length line.now ≤ 262144 }
-    ensures numbers { MatchOption (due_numbers book.now kind line.now) (result ≡ false) (λ numbers. (result ≡ true) × (numbers_of kind read.new ≡ numbers)) }
+    requires fits { length line.now ≤ MOST_LINE }
+    ensures numbers { MatchOption (due_numbers book.now kind line.now) (result ≡ false)
+        (λ numbers. (result ≡ true) × (numbers_of kind read.new ≡ numbers)) }
     ensures within { OnTrue result (All (λ number. number ≤ limit_of kind) (numbers_of kind read.new)) }
-    ensures left { OnTrue result (kind ≡ Quantum → book.now.quanta < 2 ^ 28) }
+    ensures left { OnTrue result (kind ≡ Quantum → book.now.quanta < QUANTA) }
     ensures rows { length read.new.rows ≡ length read.old.rows }
 {
     if is_spent(book, kind) {
@@ -181,138 +92,165 @@ fn take_line(book: &Book, kind: LineKind, line: &[u8], read: &mut Report) -> boo
     parse_block_line(kind, line, read)
 }
 
-// Compares the line that was read with the one that is wanted.
-fn compare_line<O: Sink>(
-    book: &Book,
-    kind: LineKind,
-    read: &Report,
-    wanted: &mut Report,
-    number: u64,
-    line: &[u8],
-    sink: &mut O,
-) -> Result<Option<RunEnd>, WriteFault>
+// Whether the line that was read has the numbers that are wanted, which the report then tells.
+fn is_wanted(book: &Book, kind: LineKind, read: &Report, report: &mut Report) -> bool
     requires read { length read.now.rows ≡ book.now.shape.users }
-    requires wanted { length wanted.old.rows ≡ book.now.shape.users }
+    requires rows { length report.old.rows ≡ book.now.shape.users }
     requires compared { kind ≢ Demand }
-    requires made { IsMade kind wanted.old.rows book.now.rows }
-    requires number { number < 2 ^ 32 }
-    ensures step { Steps O.took sink.old sink.new (compared kind (audit_state book.now kind number) line.now (numbers_of kind read.now)) (audit_state book.now (next_kind kind) (number + 1)) result }
-    ensures stops { IfOk result (λ step. IfSome step (λ end. end ≡ RunEnd.NotKarma)) }
-    ensures unsent { result ≡ Ok None → sink.new ≡ sink.old }
-    ensures rows { wanted.new.rows ≡ wanted.old.rows }
-    ensures cause { HasCause (O.faults sink.old) (O.faults sink.new) result }
+    requires made { IsMade kind report.old.rows book.now.rows }
+    ensures same { result ≡ bytes_eq (numbers_of kind read.now) (wanted kind book.now) }
+    ensures numbers { numbers_of kind report.new ≡ wanted kind book.now }
+    ensures rows { report.new.rows ≡ report.old.rows }
+    ensures quanta { book.now.quanta ≤ QUANTA }
 {
-    wanted.quantum = book.quanta();
-    if same_numbers(kind, read, wanted) {
-        return Ok(None);
-    }
-    put_not_karma(sink, number + 1, kind, wanted, line)?;
-    Ok(Some(RunEnd::NotKarma))
+    report.quantum = book.quanta();
+    same_numbers(kind, read, report)
 }
 
-// Judges one line of a log against the rule. Where the run ends with it, it writes the last lines.
-fn audit_line<O: Sink>(
-    book: &mut Book,
-    kind: LineKind,
-    read: &mut Report,
-    wanted: &mut Report,
-    number: u64,
-    line: &[u8],
-    sink: &mut O,
-) -> Result<Option<RunEnd>, WriteFault>
-    requires read { length read.old.rows ≡ book.old.shape.users }
-    requires wanted { length wanted.old.rows ≡ book.old.shape.users }
-    requires made { IsMade kind wanted.old.rows book.old.rows }
-    requires line { length line.now ≤ 262144 }
-    requires at { IsAt kind number book.old.quanta }
-    ensures step { Steps O.took sink.old sink.new (audit_one (audit_state book.old kind number) line.now) (audit_state book.new (next_kind kind) (number + 1)) result }
-    ensures stops { IfOk result (λ step. IfSome step (λ end. (end ≢ RunEnd.Done) × (end ≢ RunEnd.ReadFault))) }
-    ensures unsent { result ≡ Ok None → sink.new ≡ sink.old }
-    ensures read { result ≡ Ok None → length read.new.rows ≡ book.new.shape.users }
-    ensures wanted { result ≡ Ok None → length wanted.new.rows ≡ book.new.shape.users }
-    ensures made { result ≡ Ok None → IsMade (next_kind kind) wanted.new.rows book.new.rows }
-    ensures at { result ≡ Ok None → IsAt (next_kind kind) (number + 1) book.new.quanta }
-    ensures bound { result ≡ Ok None → number < 2 ^ 31 }
-    ensures cause { HasCause (O.faults sink.old) (O.faults sink.new) result }
-{
-    let _made = book.quanta();
-    if !take_line(book, kind, line, read) {
-        return Ok(Some(end_at_bad_line(book, kind, number, sink)?));
-    }
+// The line that is due, for a person.
+fn due_line(kind: LineKind) -> DueLine {
     match kind {
-        LineKind::Demand => {
-            take_demands(book, read, wanted);
-            Ok(None)
-        }
-        _ => compare_line(book, kind, read, wanted, number, line, sink),
+        LineKind::Quantum => DueLine::Quantum,
+        LineKind::Demand => DueLine::Demand,
+        LineKind::Slices => DueLine::Slices,
+        LineKind::Credits => DueLine::Credits,
     }
 }
 
-// Ends a run at the end of the input.
-fn end_of_log<O: Sink>(
-    book: &Book,
+// What is wrong with a line that isn't one of the kind that is due, for a person.
+fn block_fault(kind: LineKind, users: u32, line: &[u8]) -> LineFault {
+    let (word, _) = split_word(line);
+    if word != kind.word() {
+        return LineFault::NotDue {
+            due: due_line(kind),
+        };
+    }
+    let numbers = match kind {
+        LineKind::Quantum => 1,
+        LineKind::Demand | LineKind::Slices | LineKind::Credits => users as u64,
+    };
+    numbers_fault(line, 2, numbers + 1, kind.limit())
+}
+
+/// The book of an audit, the kind of line that is due, how many lines were read, and the reports of what was read and
+/// of what is wanted.
+#[derive(Drop)]
+pub struct Audit {
+    book: Book,
     kind: LineKind,
     number: u64,
-    sink: &mut O,
-) -> Result<RunEnd, WriteFault>
-    requires { number < 2 ^ 32 }
-    ensures stops { IfOk result (λ end. end ≢ RunEnd.ReadFault) }
-    ensures all { IfOk result (λ end. (audit_over (audit_state book.now kind number)).end ≡ end) }
-    ensures text { OnOk result (Adds O.took sink.old sink.new (audit_over (audit_state book.now kind number)).text) }
-    ensures prefix { OnErr result (AddsPrefix O.took sink.old sink.new (audit_over (audit_state book.now kind number)).text) }
-    ensures cause { HasCause (O.faults sink.old) (O.faults sink.new) result }
-{
-    match kind {
-        LineKind::Quantum => {
-            put_ok(sink, book.quanta() as u64)?;
-            Ok(RunEnd::Done)
+    read: Report,
+    wanted: Report,
+}
+
+impl Audit {
+    ghost use Rattle.demand_book.specs.Book.{opening_book};
+    ghost use Rattle.plan_run.specs.Auditing.{IsAuditing};
+
+    // An audit that opens with the shape's credits.
+    fn new(alloc: Global, shape: Shape) -> Result<Self, AllocError>
+        requires { IsPlan shape }
+        ensures state { IfOk result (λ audit.
+            audit_state audit.book audit.kind audit.number ≡ audit_state (opening_book shape) Quantum 0) }
+        ensures ready { IfOk result IsAuditing }
+    {
+        Ok(Audit {
+            book: Book::new(alloc, shape)?,
+            kind: LineKind::Quantum,
+            number: 0,
+            read: Report::new(alloc, shape.users)?,
+            wanted: Report::new(alloc, shape.users)?,
+        })
+    }
+
+    // Goes on to the next line.
+    fn go_on(&mut self)
+        requires { self.old.number < 2 ^ 32 }
+        ensures { self.new ≡ record self.old { kind = next_kind self.old.kind; number = self.old.number + 1 } }
+    {
+        self.kind = kind_after(self.kind);
+        self.number += 1;
+    }
+
+    // Why the run ends at a line that is none of the kind that is due. After the last quantum any line ends it.
+    fn bad_line(&self, fault: LineFault) -> Why
+        requires { IsAuditing self.now }
+        ensures end { end_of result ≡ (bad_ending self.now.book self.now.kind self.now.number).end }
+        ensures text { last_line result ≡ (bad_ending self.now.book self.now.kind self.now.number).text }
+        ensures own { (status_of result ≡ Status.BadLine) ⊎ (status_of result ≡ Status.Spent) }
+    {
+        if is_spent(&self.book, self.kind) {
+            return Why::Spent;
         }
-        LineKind::Demand | LineKind::Slices | LineKind::Credits => {
-            put_bad_line(sink, number + 1)?;
-            Ok(RunEnd::BadLine)
+        Why::BadLine {
+            number: self.number + 1,
+            fault,
         }
     }
 }
 
-// Judges the lines of the source one by one, until they end, or one ends the run. Nothing is written before that.
-fn audit_lines<S: Source, O: Sink>(
-    book: &mut Book,
-    read: &mut Report,
-    wanted: &mut Report,
-    line: &mut LineBuf,
-    source: &mut S,
-    sink: &mut O,
-) -> Result<RunEnd, WriteFault>
-    requires read { length read.old.rows ≡ book.old.shape.users }
-    requires wanted { length wanted.old.rows ≡ book.old.shape.users }
-    requires quanta { book.old.quanta ≡ 0 }
-    requires limit { line.old.limit ≡ 262144 }
-    requires going { line.old.ended ≡ false }
-    ensures whole { IfOk result (λ end. end ≢ RunEnd.ReadFault → Writes O.took sink.old sink.new (in_front line.old.ahead (S.left source.old)) (audit_end (audit_state book.old Quantum 0)) end) }
-    ensures part { WritesPrefix O.took sink.old sink.new (in_front line.old.ahead (S.left source.old)) (audit_end (audit_state book.old Quantum 0)) }
-    ensures unsent { result ≡ Ok RunEnd.ReadFault → sink.new ≡ sink.old }
-    ensures at_end { result ≡ Ok RunEnd.Done → IsAtEnd (S.left source.new) }
-    ensures fault { result ≡ Ok RunEnd.ReadFault → Rose (S.faults source.old) (S.faults source.new) }
-    ensures source { Follows (S.faults source.old) (S.faults source.new) }
-    ensures cause { HasCause (O.faults sink.old) (O.faults sink.new) result }
-{
-    let mut kind = LineKind::Quantum;
-    let mut number = 0u64;
-    'lines: loop {
-        match read_line(source, line) {
-            Ok(()) => {}
-            Err(LineEnd::End) => return end_of_log(book, kind, number, sink),
-            Err(LineEnd::ReadFault) => return Ok(RunEnd::ReadFault),
-            Err(LineEnd::TooLong { limit: _ }) => {
-                return end_at_bad_line(book, kind, number, sink);
+impl LineTaker for Audit {
+    ghost use Rattle.plan_run.specs.Auditing.{IsAuditing, audit_rules, audit_last};
+
+    ghost rules = { audit_rules };
+
+    ghost holds = { IsAuditing };
+
+    ghost lines_left = { λ audit. 2 ^ 32 - audit.number };
+
+    ghost last_text = { audit_last };
+
+    fn take_line<O: Sink>(
+        &mut self,
+        line: &[u8],
+        _sink: &mut O,
+    ) -> Result<Option<Why>, WriteFault> {
+        if !read_due(&self.book, self.kind, line, &mut self.read) {
+            let fault = block_fault(self.kind, self.book.users(), line);
+            return Ok(Some(self.bad_line(fault)));
+        }
+        match self.kind {
+            LineKind::Demand => {
+                take_demands(&mut self.book, &self.read, &mut self.wanted);
+                self.go_on();
+                Ok(None)
+            }
+            _ => {
+                if !is_wanted(&self.book, self.kind, &self.read, &mut self.wanted) {
+                    return Ok(Some(Why::NotKarma {
+                        number: self.number + 1,
+                    }));
+                }
+                self.go_on();
+                Ok(None)
             }
         }
-        match audit_line(book, kind, read, wanted, number, line.bytes(), sink)? {
-            None => {}
-            Some(end) => return Ok(end),
+    }
+
+    fn at_long_line(&self) -> Why {
+        self.bad_line(LineFault::TooLong {
+            limit: MOST_LINE as u64,
+        })
+    }
+
+    fn at_end(&self) -> Why {
+        match self.kind {
+            LineKind::Quantum => Why::Done,
+            LineKind::Demand | LineKind::Slices | LineKind::Credits => Why::BadLine {
+                number: self.number + 1,
+                fault: LineFault::Missing {
+                    due: due_line(self.kind),
+                },
+            },
         }
-        kind = kind_after(kind);
-        number += 1;
+    }
+
+    fn put_last<O: Sink>(&self, line: &[u8], why: Why, sink: &mut O) -> Result<(), WriteFault> {
+        match why {
+            Why::Done => put_ok(sink, self.book.quanta() as u64),
+            Why::NotKarma { number } => put_not_karma(sink, number, self.kind, &self.wanted, line),
+            _ => put_last_line(sink, why),
+        }
     }
 }
 
@@ -320,11 +258,36 @@ fn audit_lines<S: Source, O: Sink>(
 /// slices and credits that the rule gives for the demands that it prints. A good log gets `ok` and the count of its
 /// blocks; its last line end may be missing.
 ///
-/// The answer is a status: 0 where all is well, 3 at the first line outside the grammar, or missing, with its number,
-/// 4 where the source failed, 5 where the sink failed, 6 for want of memory, 7 where a line stands after 2^28 blocks,
-/// 9 at the first line that differs from the one that is wanted, with both. Lines are judged one by one, so whichever
-/// comes first in the input is the answer. All memory is taken before the first byte is read, and nothing is written
-/// before the end. `docs/FORMATS.md` has the blocks.
+/// It answers why it ended: where all is well, at the first line outside the grammar, or missing, with its number,
+/// where the source failed, where the sink failed, for want of memory, where a line stands after 2^28 blocks, or at the
+/// first line that differs from the one that is wanted, with both. Lines are judged one by one, so whichever comes first
+/// in the input is the answer. All memory is taken before the first byte is read, and nothing is written before the
+/// end. `docs/FORMATS.md` has the blocks.
+pub fn audit_told<S: Source, O: Sink>(
+    alloc: Global,
+    shape: Shape,
+    source: &mut S,
+    sink: &mut O,
+) -> Why
+    requires { IsPlan shape }
+    ensures audited { IsAudited (reading S.left S.faults source.old source.new)
+        O.took O.faults sink.old sink.new shape (end_of result) }
+    ensures unread { status_of result ≡ Status.NoMemory → source.new ≡ source.old }
+    ensures unwritten { status_of result ≡ Status.NoMemory → sink.new ≡ sink.old }
+{
+    let Ok(mut audit) = Audit::new(alloc, shape) else {
+        return Why::NoMemory;
+    };
+    let Ok(mut line) = LineBuf::new(alloc, MOST_LINE) else {
+        return Why::NoMemory;
+    };
+    let Ok(mut room) = WriteRoom::new(alloc) else {
+        return Why::NoMemory;
+    };
+    run_lines(&mut audit, &mut line, &mut room, source, sink)
+}
+
+/// The same as [`audit_told`], with the number of the status for an answer.
 pub fn run_audit<S: Source, O: Sink>(
     alloc: Global,
     shape: Shape,
@@ -332,41 +295,10 @@ pub fn run_audit<S: Source, O: Sink>(
     sink: &mut O,
 ) -> u8
     requires { IsPlan shape }
-    ensures listed { Contains (0 ∷ 3 ∷ 4 ∷ 5 ∷ 6 ∷ 7 ∷ 9 ∷ []) result }
-
-    // Over a source that tells what it has: what is written is a function of it, and so is the status, but for faults
-    // and memory.
-    ensures whole { IsWhole result → WritesText O.took sink.old sink.new (S.left source.old) (audited shape) }
-    ensures status { IsWhole result → EndsAs (S.left source.old) (audited shape) result }
-    ensures part { WritesPrefix O.took sink.old sink.new (S.left source.old) (audited shape) }
-    ensures unsent { result ≡ 4 → sink.new ≡ sink.old }
-    ensures at_end { result ≡ 0 → IsAtEnd (S.left source.new) }
-
-    // All is well exactly where the lines of the input are a log of Karma.
-    ensures accepts { result ≡ 0 → (bytes : List ℕ) → S.left source.old ≡ Some bytes → IsKarmaLog shape (lines_of bytes) }
-    ensures accepted { IsWhole result → (bytes : List ℕ) → S.left source.old ≡ Some bytes → IsKarmaLog shape (lines_of bytes) → result ≡ 0 }
-
-    ensures read_fault { result ≡ 4 → Rose (S.faults source.old) (S.faults source.new) }
-    ensures write_fault { result ≡ 5 → Rose (O.faults sink.old) (O.faults sink.new) }
-    ensures unread { result ≡ 6 → source.new ≡ source.old }
-    ensures unwritten { result ≡ 6 → sink.new ≡ sink.old }
-    ensures source { Follows (S.faults source.old) (S.faults source.new) }
-    ensures sink { Follows (O.faults sink.old) (O.faults sink.new) }
+    ensures audited { EndsWith result (IsAudited (reading S.left S.faults source.old source.new)
+        O.took O.faults sink.old sink.new shape) }
+    ensures unread { result ≡ code_of Status.NoMemory → source.new ≡ source.old }
+    ensures unwritten { result ≡ code_of Status.NoMemory → sink.new ≡ sink.old }
 {
-    let Ok(mut book) = Book::new(alloc, shape) else {
-        return NO_MEMORY;
-    };
-    let Ok(mut read) = Report::new(alloc, shape.users) else {
-        return NO_MEMORY;
-    };
-    let Ok(mut wanted) = Report::new(alloc, shape.users) else {
-        return NO_MEMORY;
-    };
-    let Ok(mut line) = LineBuf::new(alloc, MOST_LINE) else {
-        return NO_MEMORY;
-    };
-    match audit_lines(&mut book, &mut read, &mut wanted, &mut line, source, sink) {
-        Ok(end) => end.status(),
-        Err(WriteFault) => WRITE_FAULT,
-    }
+    audit_told(alloc, shape, source, sink).status().code()
 }

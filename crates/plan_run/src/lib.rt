@@ -2,11 +2,9 @@
 #![tactic(auto)]
 
 mod audit;
-mod last_lines;
+mod audit_last;
+mod line_fault;
 mod plan;
-mod run_end;
 
-pub use audit::run_audit;
-pub use last_lines::{put_bad_line, put_spent};
-pub use plan::run_plan;
-pub use run_end::{NO_MEMORY, RunEnd, WRITE_FAULT};
+pub use audit::{audit_told, run_audit};
+pub use plan::{plan_told, run_plan};

@@ -1,27 +1,29 @@
-ghost use Rattle.std.specs.Prelude.{◌≡◌, ◌≢◌, ◌-◌, ◌<◌, ◌≤◌, ◌^◌, length, Ok, Err, Some, None, true, false, IfOk, OnErr, OnOk, MatchOption, IfSome, ◌⊎◌, ◌∷◌, [], Contains};
-ghost use Rattle.far_io.specs.Faults.{Rose, Follows, HasCause};
-ghost use Rattle.far_io.specs.Left.{in_front, IsAtEnd};
-ghost use Rattle.karma_rule.specs.Limits.{IsPlan};
-ghost use Rattle.plan_run.specs.PlanText.{rows_of_line, rows_of_words, line_end, plan_end, planned};
-ghost use Rattle.plan_run.specs.Writes.{Writes, WritesText, EndsAs, WritesPrefix, WritesEnded};
-ghost use Rattle.plan_run.specs.Status.{IsWhole};
-ghost use Rattle.plan_run.specs.Steps.{Steps};
+//! `plan`: lines of demands to quantum blocks.
+
+ghost use Rattle.std.specs.Prelude.{◌≡◌, ◌≢◌, ◌-◌, ◌+◌, ◌<◌, ◌≤◌, ◌^◌, length, Ok, Err, Some, None, true, false, IfOk, OnErr, OnOk, MatchOption, IfSome};
 ghost use Rattle.far_io.specs.Words.{words_of};
+ghost use Rattle.demand_book.specs.declared.book.TheConstants.{QUANTA};
+ghost use Rattle.karma_rule.specs.Limits.{IsPlan};
+ghost use Rattle.run_end.specs.Why.{status_of, end_of, EndsWith};
+ghost use Rattle.run_end.specs.LastLines.{last_line};
+ghost use Rattle.run_end.specs.Status.{code_of};
+ghost use Rattle.line_run.specs.Runs.{reading};
+ghost use Rattle.plan_run.specs.PlanText.{rows_of_words};
+ghost use Rattle.plan_run.specs.Runs.{IsPlanned};
 
-use crate::last_lines::{put_bad_line, put_spent};
-use crate::run_end::{NO_MEMORY, RunEnd, WRITE_FAULT};
+use crate::line_fault::numbers_fault;
 use demand_book::{Book, Report};
-use far_io::{LineBuf, LineEnd, Sink, Source, WriteFault, parse_decimal, read_line, split_word};
-use karma_rule::Shape;
+use far_io::{LineBuf, Sink, Source, WriteFault, WriteRoom, parse_decimal, split_word};
+use karma_rule::{MOST_DEMAND, Shape};
+use line_run::{LineTaker, run_lines};
 use quantum_text::write_report;
-use std::alloc::Global;
-
-/// The most bytes of a line of input.
-pub(crate) const MOST_LINE: usize = 262_144;
+use run_end::{LineFault, MOST_LINE, Status, Why, put_last_line};
+use std::alloc::{AllocError, Global};
 
 // Reports what each user demands by the words of a line, and says whether the line is good: whether it has one word
 // for each user, and each is a demand.
 fn report_words(book: &mut Book, line: &[u8]) -> bool
+    ensures shape { book.new.shape ≡ book.old.shape }
     ensures quanta { book.new.quanta ≡ book.old.quanta }
     ensures rows { MatchOption (rows_of_words (words_of line.now) book.old.rows) (result ≡ false)
         (λ rows. (result ≡ true) × (book.new ≡ record book.old { rows = rows })) }
@@ -43,107 +45,114 @@ fn report_words(book: &mut Book, line: &[u8]) -> bool
     rest.is_none()
 }
 
-// Takes one line of input: makes the quantum of a good one and writes its block. Else it writes the last line, and
-// says how the run ends.
-fn plan_line<O: Sink>(
-    book: &mut Book,
-    report: &mut Report,
-    line: &[u8],
-    sink: &mut O,
-) -> Result<Option<RunEnd>, WriteFault>
-    requires report { length report.old.rows ≡ book.old.shape.users }
-    requires line { length line.now ≤ 262144 }
-    ensures step { Steps O.took sink.old sink.new (line_end book.old (rows_of_line book.old.rows line.now)) book.new result }
-    ensures stops { IfOk result (λ step. IfSome step (λ end. (end ≡ RunEnd.BadLine) ⊎ (end ≡ RunEnd.Spent))) }
-    ensures report { result ≡ Ok None → length report.new.rows ≡ book.new.shape.users }
-    ensures quanta { result ≡ Ok None → 2 ^ 28 - book.new.quanta < 2 ^ 28 - book.old.quanta }
-    ensures cause { HasCause (O.faults sink.old) (O.faults sink.new) result }
-{
-    if !report_words(book, line) {
-        put_bad_line(sink, book.quanta() as u64 + 1)?;
-        return Ok(Some(RunEnd::BadLine));
-    }
-    if book.tick(report).is_err() {
-        put_spent(sink)?;
-        return Ok(Some(RunEnd::Spent));
-    }
-    write_report(report, sink)?;
-    Ok(None)
+/// The book of a plan, and the room in which a quantum is told.
+#[derive(Drop)]
+pub struct Plan {
+    book: Book,
+    report: Report,
 }
 
-// Takes the lines of the source one by one, until they end, or one ends the run.
-fn plan_lines<S: Source, O: Sink>(
-    book: &mut Book,
-    report: &mut Report,
-    line: &mut LineBuf,
-    source: &mut S,
-    sink: &mut O,
-) -> Result<RunEnd, WriteFault>
-    requires report { length report.old.rows ≡ book.old.shape.users }
-    requires limit { line.old.limit ≡ 262144 }
-    requires going { line.old.ended ≡ false }
-    ensures whole { IfOk result (λ end. end ≢ RunEnd.ReadFault → Writes O.took sink.old sink.new (in_front line.old.ahead (S.left source.old)) (plan_end book.old) end) }
-    ensures ended { result ≡ Ok RunEnd.ReadFault → WritesEnded O.took sink.old sink.new (in_front line.old.ahead (S.left source.old)) (S.left source.new) (plan_end book.old) }
-    ensures part { WritesPrefix O.took sink.old sink.new (in_front line.old.ahead (S.left source.old)) (plan_end book.old) }
-    ensures of_plan { IfOk result (λ end. end ≢ RunEnd.NotKarma) }
-    ensures at_end { result ≡ Ok RunEnd.Done → IsAtEnd (S.left source.new) }
-    ensures fault { result ≡ Ok RunEnd.ReadFault → Rose (S.faults source.old) (S.faults source.new) }
-    ensures source { Follows (S.faults source.old) (S.faults source.new) }
-    ensures cause { HasCause (O.faults sink.old) (O.faults sink.new) result }
-{
-    'lines: loop {
-        match read_line(source, line) {
-            Ok(()) => {}
-            Err(LineEnd::End) => return Ok(RunEnd::Done),
-            Err(LineEnd::ReadFault) => return Ok(RunEnd::ReadFault),
-            Err(LineEnd::TooLong { limit: _ }) => {
-                put_bad_line(sink, book.quanta() as u64 + 1)?;
-                return Ok(RunEnd::BadLine);
-            }
+impl Plan {
+    ghost use Rattle.demand_book.specs.Book.{opening_book};
+
+    // A plan that opens with the shape's credits.
+    fn new(alloc: Global, shape: Shape) -> Result<Self, AllocError>
+        requires { IsPlan shape }
+        ensures book { IfOk result (λ plan. plan.book ≡ opening_book shape) }
+        ensures rows { IfOk result (λ plan. length plan.report.rows ≡ plan.book.shape.users) }
+    {
+        Ok(Plan {
+            book: Book::new(alloc, shape)?,
+            report: Report::new(alloc, shape.users)?,
+        })
+    }
+
+    // Why the run ends at the next line, which has this fault.
+    fn bad_line(&self, fault: LineFault) -> Why
+        ensures { result ≡ Why.BadLine (self.now.book.quanta + 1) fault }
+    {
+        Why::BadLine {
+            number: self.book.quanta() as u64 + 1,
+            fault,
         }
-        match plan_line(book, report, line.bytes(), sink)? {
-            None => {}
-            Some(end) => return Ok(end),
+    }
+}
+
+impl LineTaker for Plan {
+    ghost use Rattle.plan_run.specs.Planning.{plan_rules};
+
+    ghost rules = { plan_rules };
+
+    ghost holds = { λ plan. length plan.report.rows ≡ plan.book.shape.users };
+
+    ghost lines_left = { λ plan. QUANTA - plan.book.quanta };
+
+    ghost last_text = { λ _ _. last_line };
+
+    fn take_line<O: Sink>(&mut self, line: &[u8], sink: &mut O) -> Result<Option<Why>, WriteFault> {
+        if !report_words(&mut self.book, line) {
+            let users = self.book.users() as u64;
+            return Ok(Some(self.bad_line(numbers_fault(line, 1, users, MOST_DEMAND))));
         }
+        if self.book.tick(&mut self.report).is_err() {
+            return Ok(Some(Why::Spent));
+        }
+        write_report(&self.report, sink)?;
+        Ok(None)
+    }
+
+    fn at_long_line(&self) -> Why {
+        self.bad_line(LineFault::TooLong {
+            limit: MOST_LINE as u64,
+        })
+    }
+
+    fn at_end(&self) -> Why {
+        Why::Done
+    }
+
+    fn put_last<O: Sink>(&self, _line: &[u8], why: Why, sink: &mut O) -> Result<(), WriteFault> {
+        put_last_line(sink, why)
     }
 }
 
 /// Reads lines of demands, one for each quantum, and writes the block of each. It ends at the end of the input, at the
 /// first bad line, whose number it writes, or where a good line stands after 2^28 quanta, with a last line `spent`.
 ///
-/// The answer is a status: 0 at the end, 3 at a bad line, 4 where the source failed, 5 where the sink failed, 6 for
-/// want of memory, 7 where the quanta are spent. All memory is taken before the first byte is read.
-/// `docs/FORMATS.md` has the lines and the blocks.
-pub fn run_plan<S: Source, O: Sink>(alloc: Global, shape: Shape, source: &mut S, sink: &mut O) -> u8
+/// It answers why it ended: at the end of the input, at a bad line, where the source failed, where the sink failed, for
+/// want of memory, or where the quanta are spent. All memory is taken before the first byte is read. `docs/FORMATS.md`
+/// has the lines and the blocks.
+pub fn plan_told<S: Source, O: Sink>(
+    alloc: Global,
+    shape: Shape,
+    source: &mut S,
+    sink: &mut O,
+) -> Why
     requires { IsPlan shape }
-    ensures listed { Contains (0 ∷ 3 ∷ 4 ∷ 5 ∷ 6 ∷ 7 ∷ []) result }
-
-    // Over a source that tells what it has: what is written is a function of it, and so is the status, but for faults
-    // and memory.
-    ensures whole { IsWhole result → WritesText O.took sink.old sink.new (S.left source.old) (planned shape) }
-    ensures status { IsWhole result → EndsAs (S.left source.old) (planned shape) result }
-    ensures ended { result ≡ 4 → WritesEnded O.took sink.old sink.new (S.left source.old) (S.left source.new) (planned shape) }
-    ensures part { WritesPrefix O.took sink.old sink.new (S.left source.old) (planned shape) }
-    ensures at_end { result ≡ 0 → IsAtEnd (S.left source.new) }
-
-    ensures read_fault { result ≡ 4 → Rose (S.faults source.old) (S.faults source.new) }
-    ensures write_fault { result ≡ 5 → Rose (O.faults sink.old) (O.faults sink.new) }
-    ensures unread { result ≡ 6 → source.new ≡ source.old }
-    ensures unwritten { result ≡ 6 → sink.new ≡ sink.old }
-    ensures source { Follows (S.faults source.old) (S.faults source.new) }
-    ensures sink { Follows (O.faults sink.old) (O.faults sink.new) }
+    ensures planned { IsPlanned (reading S.left S.faults source.old source.new)
+        O.took O.faults sink.old sink.new shape (end_of result) }
+    ensures unread { status_of result ≡ Status.NoMemory → source.new ≡ source.old }
+    ensures unwritten { status_of result ≡ Status.NoMemory → sink.new ≡ sink.old }
 {
-    let Ok(mut book) = Book::new(alloc, shape) else {
-        return NO_MEMORY;
-    };
-    let Ok(mut report) = Report::new(alloc, shape.users) else {
-        return NO_MEMORY;
+    let Ok(mut plan) = Plan::new(alloc, shape) else {
+        return Why::NoMemory;
     };
     let Ok(mut line) = LineBuf::new(alloc, MOST_LINE) else {
-        return NO_MEMORY;
+        return Why::NoMemory;
     };
-    match plan_lines(&mut book, &mut report, &mut line, source, sink) {
-        Ok(end) => end.status(),
-        Err(WriteFault) => WRITE_FAULT,
-    }
+    let Ok(mut room) = WriteRoom::new(alloc) else {
+        return Why::NoMemory;
+    };
+    run_lines(&mut plan, &mut line, &mut room, source, sink)
+}
+
+/// The same as [`plan_told`], with the number of the status for an answer.
+pub fn run_plan<S: Source, O: Sink>(alloc: Global, shape: Shape, source: &mut S, sink: &mut O) -> u8
+    requires { IsPlan shape }
+    ensures planned { EndsWith result (IsPlanned (reading S.left S.faults source.old source.new)
+        O.took O.faults sink.old sink.new shape) }
+    ensures unread { result ≡ code_of Status.NoMemory → source.new ≡ source.old }
+    ensures unwritten { result ≡ code_of Status.NoMemory → sink.new ≡ sink.old }
+{
+    plan_told(alloc, shape, source, sink).status().code()
 }

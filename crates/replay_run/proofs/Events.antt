@@ -1,36 +1,39 @@
 -- One event, and what is written for it.
-use Rattle.std.proofs.Common.{◌≡◌, ℕ, ◌<◌, ◌≤◌, ◌^◌, false, List, [], ◌∷◌, ◌++◌, length, Option, Result, Err, refl, sym, ◌∙◌, ap, subst, inl, append_assoc, append-nil}
+use Rattle.std.proofs.Common.{◌≡◌, ℕ, ◌+◌, ◌<◌, ◌≤◌, false, List, [], ◌∷◌, ◌++◌, length, Option, Result, Err, refl, sym, ◌∙◌, ap, subst, append_assoc, append-nil}
+use Rattle.std.proofs.lemmas.List.Elements.{All-nil, All-cons}
 use Rattle.far_io.specs.Adds.{Adds, AddsPrefix}
-use Rattle.far_io.specs.Faults.{Faults}
 use Rattle.far_io.specs.declared.put.WriteFault.{WriteFault}
 use Rattle.far_io.proofs.Adds.{adds_equal}
 use Rattle.far_words.specs.Moves.{MovesView}
 use Rattle.far_words.specs.declared.request.Outcome.{Outcome}
+use Rattle.run_end.specs.declared.TheConstants.{MOST_LINE}
+use Rattle.run_end.specs.declared.why.Why.{Why}
+use Rattle.line_run.specs.Chunks.{chunk_of}
+use Rattle.line_run.specs.LineRules.{TakesLine, ComesOfLine}
+use Rattle.line_run.proofs.Writes.{prefix_equal}
 use Rattle.script_text.specs.declared.line.ScriptLine.{ScriptLine}
-use Rattle.script_text.specs.declared.line.ScriptLine.TheVariants.{Ask as AskLine, Draw as DrawLine, Grant as GrantLine}
-use Rattle.script_text.specs.Lines.{IsScriptLine}
+use Rattle.script_text.specs.Lines.{line_text, IsScriptLine}
 use Rattle.script_text.specs.Outcomes.{outcome_text}
 use Rattle.script_text.specs.Moves.{moves_text}
 use Rattle.far_core.specs.declared.service.CoreEvent.{CoreEvent}
 use Rattle.far_core.specs.Runs.{CoreEntry}
-use Rattle.far_core.specs.Cores.{CoreView, StandsForRun, core_entry}
-use Rattle.replay_run.specs.declared.replay_end.ReplayEnd.{ReplayEnd}
-use Rattle.replay_run.specs.Trace.{event_text, line_of_event, event_of_line, entry_text, is_no_memory, no_memory_line, TakesNoMemory}
-use Rattle.replay_run.specs.Steps.{Made, Calls, Grows, Writes, Comes}
-
--- the event of a line is asked for by that line
-pub line_again : (line : ScriptLine) → line_of_event (event_of_line line) ≡ line
-line_again (AskLine user request) = refl
-line_again DrawLine = refl
-line_again (GrantLine user) = refl
+use Rattle.far_core.specs.Cores.{GrowsBy, core_entry}
+use Rattle.replay_run.specs.declared.TheConstants.{MOST_LINES}
+use Rattle.replay_run.specs.declared.taker.Replaying.{Replaying}
+use Rattle.replay_run.specs.Trace.{TracedLine, IsTraced, FindsMemory, event_of_line, events_of, events_asked, is_no_memory, traced_text, entry_text}
+use Rattle.replay_run.specs.Rules.{TracesLine, replay_rules}
 
 -- the text of moves doesn't tell for how many there is room
 moves_same : (moves : MovesView) → moves_text moves ≡ moves_text (record { room = 0; freed = moves.freed; placed = moves.placed })
 unfolding moves_text
 moves_same moves = refl
 
+one_event : (line : ScriptLine) (entry : CoreEntry) → entry.event ≡ event_of_line line → events_of (entry ∷ []) ≡ events_asked line
+unfolding events_of
+one_event line entry same = ap (λ (e : CoreEvent). e ∷ []) same
+
 -- a part of the first text is a part of both
-pub part_of_both : {O : Type 0} (took : O → List ℕ → Type 0) (before now : O) (first second : List ℕ) → AddsPrefix took before now first → AddsPrefix took before now (first ++ second)
+pub part_of_both : {O : Type 0} (took : O → O → List ℕ → Type 0) (before now : O) (first second : List ℕ) → AddsPrefix took before now first → AddsPrefix took before now (first ++ second)
 part_of_both took before now first second part = record {
   sent = part.sent;
   unsent = part.unsent ++ second;
@@ -38,38 +41,47 @@ part_of_both took before now first second part = record {
   adds = part.adds;
 }
 
-module _ {O : Type 0} (took : O → List ℕ → Type 0) (faults : O → Faults) (before now : O) (old new : CoreView) (lines : ℕ) (line : List ℕ) (event : CoreEvent) (outcome : Outcome)
-    (room : lines < 2 ^ 32) (short : length line ≤ 262144) (spelled : line ≡ event_text event) (within : IsScriptLine (line_of_event event))
-    (memory : is_no_memory outcome ≡ false) (stands : (run : List CoreEntry) → StandsForRun old run → StandsForRun new (run ++ core_entry event outcome new ∷ [])) where
-  calls : Calls line (Made (core_entry event outcome new))
-  calls = (spelled, record { within = within; short = subst (λ (text : List ℕ). length text ≤ 262144) spelled short; memory = memory })
+module _ (old new : Replaying) (line : ScriptLine) (event : CoreEvent) (outcome : Outcome) (moves : MovesView) (asked : event ≡ event_of_line line) (within : IsScriptLine line)
+    (short : length (line_text line) ≤ MOST_LINE) (room : old.number < MOST_LINES) (memory : is_no_memory outcome ≡ false) (same : moves ≡ new.core.moves)
+    (shape : new.core.shape ≡ old.core.shape) (counted : new.number ≡ old.number + 1)
+    (grows : GrowsBy old.core (core_entry event outcome new.core ∷ []) new.core) where
+  entry : CoreEntry
+  entry = core_entry event outcome new.core
 
-  grows : Grows old new lines (core_entry event outcome new)
-  grows = record { room = room; stands = stands }
+  traced : TracedLine
+  traced = record { line = line; entries = entry ∷ [] }
 
-  text_is : outcome_text outcome ++ moves_text new.moves ≡ entry_text (core_entry event outcome new)
-  text_is = ap (λ text. outcome_text outcome ++ text) (moves_same new.moves)
+  text_is : outcome_text outcome ++ moves_text moves ≡ traced_text traced
+  unfolding traced entry
+  text_is = ap (λ (m : MovesView). outcome_text outcome ++ moves_text m) same ∙ ap (λ text. outcome_text outcome ++ text) (moves_same new.core.moves) ∙ sym (append-nil (entry_text entry))
+
+  takes : TracesLine old (chunk_of (line_text line) (traced_text traced)) new
+  unfolding traced entry
+  takes = record {
+    traced = traced;
+    good = record { within = within; short = short; asked = one_event line entry asked; going = All-cons FindsMemory entry [] memory (All-nil FindsMemory) };
+    line_is = refl;
+    text_is = refl;
+    shape = shape;
+    room = room;
+    counted = counted;
+    grows = grows;
+  }
 
   -- the outcome and its moves were written
-  pub writes : (moves : MovesView) → moves ≡ new.moves → Adds took before now (outcome_text outcome ++ moves_text moves) → Writes took before now old new lines line (Made (core_entry event outcome new))
-  writes moves same adds = record {
-    calls = calls;
-    is_done = grows;
-    adds = adds_equal took before now (outcome_text outcome ++ moves_text moves) (entry_text (core_entry event outcome new)) (ap (λ (m : MovesView). outcome_text outcome ++ moves_text m) same ∙ text_is) adds;
+  pub writes : {O : Type 0} (took : O → O → List ℕ → Type 0) (before now : O) → Adds took before now (outcome_text outcome ++ moves_text moves) → TakesLine replay_rules took before now old new (line_text line)
+  writes took before now adds = record {
+    text = traced_text traced;
+    takes = takes;
+    adds = adds_equal took before now (outcome_text outcome ++ moves_text moves) (traced_text traced) text_is adds;
   }
 
   -- or a part of them
-  pub fails : (moves : MovesView) → moves ≡ new.moves → (result : Result (Option ReplayEnd) WriteFault) (fault : WriteFault) → result ≡ Err fault
-      → AddsPrefix took before now (outcome_text outcome ++ moves_text moves) → Comes took faults before now old new lines line result
-  fails moves same result fault failed part =
-      let P : List ℕ → Type 0 = λ text. AddsPrefix took before now text in
-      subst (Comes took faults before now old new lines line) (sym failed) (record {
-        step = Made (core_entry event outcome new);
-        calls = calls;
-        is_done = grows;
-        adds = subst P (ap (λ (m : MovesView). outcome_text outcome ++ moves_text m) same ∙ text_is) part;
+  pub fails : {O : Type 0} (took : O → O → List ℕ → Type 0) (last : Why → List ℕ) (before now : O) (result : Result (Option Why) WriteFault) → (fault : WriteFault) → result ≡ Err fault
+      → AddsPrefix took before now (outcome_text outcome ++ moves_text moves) → ComesOfLine replay_rules took last before now old new (line_text line) result
+  fails took last before now result fault failed part =
+      subst (ComesOfLine replay_rules took last before now old new (line_text line)) (sym failed) (record {
+        text = traced_text traced;
+        takes = takes;
+        adds = prefix_equal took before now (outcome_text outcome ++ moves_text moves) (traced_text traced) text_is part;
       })
-
--- the sink took the whole last line
-pub takes_all : {O : Type 0} (took : O → List ℕ → Type 0) (faults : O → Faults) (before now : O) → Adds took before now no_memory_line → TakesNoMemory took faults before now
-takes_all took faults before now adds = record { part = record { sent = no_memory_line; unsent = []; whole = append-nil no_memory_line; adds = adds }; whole = inl refl }

@@ -1,106 +1,126 @@
--- What a whole run wrote, over an input that is told or not.
-use Rattle.std.specs.Prelude.{◌≡◌, ℕ, ◌<◌, ◌≤◌, ◌^◌, ◌⊎◌, List, [], ◌∷◌, ◌++◌, length, All, Some}
+-- What a whole replay came to, over an input that is told or not.
+use Rattle.std.specs.Prelude.{◌≡◌, ℕ, ◌+◌, ◌<◌, ◌≤◌, ◌⊎◌, List, [], ◌∷◌, ◌++◌, length, All, Some, None}
 use Rattle.std.specs.declared.option.Option.{Option}
 use Rattle.karma_rule.specs.declared.shape.Shape.{Shape}
-use Rattle.far_io.specs.Adds.{Adds}
-use Rattle.far_io.specs.Faults.{Faults, Rose}
-use Rattle.far_io.specs.Lines.{lines_of, ended_lines_of}
-use Rattle.plan_run.specs.Status.{IsWhole}
-use Rattle.far_core.specs.Runs.{CoreEntry, IsCoreRun}
-use Rattle.replay_run.specs.declared.replay_end.ReplayEnd.{ReplayEnd}
-use Rattle.replay_run.specs.declared.replay_end.ReplayEnd.TheVariants.{Done, BadLine, ReadFault, WantOfMemory, Spent}
-use Rattle.replay_run.specs.Trace.{script_of, output_of, IsTaken, IsScript, no_memory_line}
-use Rattle.replay_run.specs.Steps.{Step, Made, Refused, TooMany, step_text, Calls}
+use Rattle.far_io.specs.Adds.{Adds, AddsPrefix}
+use Rattle.far_io.specs.Faults.{Faults, Rose, Follows}
+use Rattle.far_io.specs.Left.{IsAtEnd}
+use Rattle.far_io.specs.Lines.{lines_of}
+use Rattle.far_core.specs.Runs.{IsCoreRun}
+use Rattle.run_end.specs.LastLines.{bad_line, spent_line, no_memory_line}
+use Rattle.run_end.specs.Status.{IsWhole}
+use Rattle.run_end.specs.Why.{End}
+use Rattle.run_end.specs.declared.status.Status.{Status}
+use Rattle.run_end.specs.declared.status.Status.TheVariants.{Done, BadWords, BadLine, ReadFault, WriteFault, NoMemory, Spent, NotKarma}
+use Rattle.line_run.specs.Chunks.{HasRead}
+use Rattle.line_run.specs.Runs.{Reading}
+use Rattle.replay_run.specs.declared.TheConstants.{MOST_LINES}
+use Rattle.replay_run.specs.Trace.{TracedLine, IsTraced, IsBadLine, IsScript, script_of, output_of, run_of}
 
--- a run of a core whose events a script can ask for
-pub record IsReplay (shape : Shape) (run : List CoreEntry) : Type 0 where
-  pub legal : IsCoreRun shape run
-  pub count : length run ≤ 2 ^ 32
-  pub taken : All IsTaken run
+-- lines of a script that make a run of a core
+pub record IsTrace (shape : Shape) (trace : List TracedLine) : Type 0 where
+  pub lines : All IsTraced trace
+  pub count : length trace ≤ MOST_LINES
+  pub run : IsCoreRun shape (run_of trace)
 
--- the sink took their text, and then these bytes
-pub record Replays {O : Type 0} (took : O → List ℕ → Type 0) (before now : O) (shape : Shape) (run : List CoreEntry) (more : List ℕ) : Type 0 where
-  pub is_replay : IsReplay shape run
-  pub adds : Adds took before now (output_of run ++ more)
+-- Which lines of the input they are, where it is told.
 
--- these events are asked for by all lines of the input
-abbrev pub AreAll : Option (List ℕ) → List CoreEntry → Type 0
-AreAll input run = (bytes : List ℕ) → input ≡ Some bytes → lines_of bytes ≡ script_of run
+-- all
+abbrev pub AreAll : Option (List ℕ) → List TracedLine → Type 0
+AreAll input trace = (bytes : List ℕ) → input ≡ Some bytes → lines_of bytes ≡ script_of trace
 
--- by the lines of which the line end was read
-abbrev pub AreEnded : Option (List ℕ) → Option (List ℕ) → List CoreEntry → Type 0
-AreEnded input left run = (bytes : List ℕ) → input ≡ Some bytes
-    → (seen : List ℕ) × (rest : List ℕ) × (left ≡ Some rest) × (bytes ≡ seen ++ rest) × (ended_lines_of seen ≡ script_of run)
+-- those whose line ends were read; what was read after them is within the limit of a line
+abbrev pub AreEnded : Option (List ℕ) → Option (List ℕ) → List TracedLine → Type 0
+AreEnded input left trace = (bytes : List ℕ) → input ≡ Some bytes → (rest : List ℕ) × (left ≡ Some rest) × HasRead bytes rest (script_of trace)
 
--- by the first lines
-abbrev pub AreFirst : Option (List ℕ) → List CoreEntry → Type 0
-AreFirst input run = (bytes : List ℕ) → input ≡ Some bytes → (others : List (List ℕ)) × (lines_of bytes ≡ script_of run ++ others)
+-- the first ones
+abbrev pub AreFirst : Option (List ℕ) → List TracedLine → Type 0
+AreFirst input trace = (bytes : List ℕ) → input ≡ Some bytes → (others : List (List ℕ)) × (lines_of bytes ≡ script_of trace ++ others)
 
--- by the lines before one that calls for this
-abbrev pub AreBefore : Option (List ℕ) → List CoreEntry → Step → Type 0
-AreBefore input run step = (bytes : List ℕ) → input ≡ Some bytes
-    → (line : List ℕ) × (others : List (List ℕ)) × (lines_of bytes ≡ script_of run ++ line ∷ others) × Calls line step
+-- those before such a line
+abbrev pub AreBefore : Option (List ℕ) → List TracedLine → (List ℕ → Type 0) → Type 0
+AreBefore input trace P = (bytes : List ℕ) → input ≡ Some bytes → (line : List ℕ) × (others : List (List ℕ)) × (lines_of bytes ≡ script_of trace ++ line ∷ others) × P line
 
--- what may come after these events
-abbrev pub MayCome : Shape → List CoreEntry → Step → Type 0
-MayCome shape run (Made entry) = (length run < 2 ^ 32) × IsCoreRun shape (run ++ entry ∷ [])
-MayCome shape run Refused = length run < 2 ^ 32
-MayCome shape run TooMany = length run ≡ 2 ^ 32
+-- what is written last: nothing, or the last line of a status
+pub data LastText : Type 0 where
+  Nothing Refusal OneTooMany WantOfMemory : LastText
+
+-- after so many lines
+abbrev pub text_of_last : ℕ → LastText → List ℕ
+text_of_last lines Nothing = []
+text_of_last lines Refusal = bad_line (lines + 1)
+text_of_last lines OneTooMany = spent_line
+text_of_last lines WantOfMemory = no_memory_line
+
+-- the input calls for it after these lines
+abbrev pub MayEnd : Option (List ℕ) → List TracedLine → LastText → Type 0
+MayEnd input trace Nothing = AreFirst input trace
+MayEnd input trace Refusal = (length trace < MOST_LINES) × AreBefore input trace IsBadLine
+MayEnd input trace OneTooMany = (length trace ≡ MOST_LINES) × AreBefore input trace (λ line. Unit {0})
+MayEnd input trace WantOfMemory = AreFirst input trace
 
 -- every line was replayed
-pub record ReplaysAll {O : Type 0} (took : O → List ℕ → Type 0) (before now : O) (shape : Shape) (input : Option (List ℕ)) : Type 0 where
-  pub run : List CoreEntry
-  pub replays : Replays took before now shape run []
-  pub all : AreAll input run
+pub record EndsDone {O : Type 0} (read : Reading) (took : O → O → List ℕ → Type 0) (before now : O) (trace : List TracedLine) : Type 0 where
+  pub all : AreAll read.input trace
+  pub writes : Adds took before now (output_of trace)
+  pub at_end : IsAtEnd read.left
 
--- every line was replayed that was read whole
-pub record ReplaysEnded {O : Type 0} (took : O → List ℕ → Type 0) (before now : O) (shape : Shape) (input left : Option (List ℕ)) : Type 0 where
-  pub run : List CoreEntry
-  pub replays : Replays took before now shape run []
-  pub ended : AreEnded input left run
+-- the lines before a bad one were replayed, and its number was written
+pub record EndsAtBadLine {O : Type 0} (read : Reading) (took : O → O → List ℕ → Type 0) (before now : O) (trace : List TracedLine) (number : Option ℕ) : Type 0 where
+  pub may : MayEnd read.input trace Refusal
+  pub number_is : number ≡ Some (length trace + 1)
+  pub writes : Adds took before now (output_of trace ++ bad_line (length trace + 1))
 
--- the lines before one were replayed, and that one ended the run with its last line
-pub record ReplaysUntil {O : Type 0} (took : O → List ℕ → Type 0) (before now : O) (shape : Shape) (input : Option (List ℕ)) (step : Step) : Type 0 where
-  pub run : List CoreEntry
-  pub replays : Replays took before now shape run (step_text (length run) step)
-  pub before_it : AreBefore input run step
-  pub may : MayCome shape run step
+-- as many lines were replayed as are taken at most, and a further one stands there
+pub record EndsSpent {O : Type 0} (read : Reading) (took : O → O → List ℕ → Type 0) (before now : O) (trace : List TracedLine) : Type 0 where
+  pub may : MayEnd read.input trace OneTooMany
+  pub writes : Adds took before now (output_of trace ++ spent_line)
 
--- the lines before one were replayed, and the sink failed within the text of that one
-pub record ReplaysPart {O : Type 0} (took : O → List ℕ → Type 0) (before now : O) (shape : Shape) (input : Option (List ℕ)) : Type 0 where
-  pub run : List CoreEntry
-  pub step : Step
-  pub sent : List ℕ
-  pub unsent : List ℕ
-  pub whole : sent ++ unsent ≡ step_text (length run) step
-  pub replays : Replays took before now shape run sent
-  pub before_it : AreBefore input run step
-  pub may : MayCome shape run step
+-- the source failed, and every line was replayed whose line end was read
+pub record EndsAtReadFault {O : Type 0} (read : Reading) (took : O → O → List ℕ → Type 0) (before now : O) (trace : List TracedLine) : Type 0 where
+  pub ended : AreEnded read.input read.left trace
+  pub writes : Adds took before now (output_of trace)
+  pub rose : Rose read.faults read.faults_now
 
--- the first lines were replayed, and then no memory was found, which the sink took but for a fault of its own
-pub record ReplaysFirst {O : Type 0} (took : O → List ℕ → Type 0) (faults : O → Faults) (before now : O) (shape : Shape) (input : Option (List ℕ)) : Type 0 where
-  pub run : List CoreEntry
+-- the sink failed within the text of these lines and of what comes last
+pub record EndsAtWriteFault {O : Type 0} (read : Reading) (took : O → O → List ℕ → Type 0) (faults : O → Faults) (before now : O) (trace : List TracedLine) : Type 0 where
+  pub last : LastText
+  pub may : MayEnd read.input trace last
+  pub writes : AddsPrefix took before now (output_of trace ++ text_of_last (length trace) last)
+  pub rose : Rose (faults before) (faults now)
+
+-- the sink took the line for want of memory, or failed within it
+pub record SendsNoMemory {O : Type 0} (took : O → O → List ℕ → Type 0) (faults : O → Faults) (before now : O) : Type 0 where
+  pub part : AddsPrefix took before now no_memory_line
+  pub but_for : (part.unsent ≡ []) ⊎ Rose (faults before) (faults now)
+
+-- the first lines were replayed, and then no memory was left, which the sink took but for a fault of its own
+pub record EndsWithoutMemory {O : Type 0} (read : Reading) (took : O → O → List ℕ → Type 0) (faults : O → Faults) (before now : O) (trace : List TracedLine) : Type 0 where
+  pub first : AreFirst read.input trace
   pub sent : List ℕ
   pub unsent : List ℕ
   pub whole : sent ++ unsent ≡ no_memory_line
   pub but_for : (unsent ≡ []) ⊎ Rose (faults before) (faults now)
-  pub replays : Replays took before now shape run sent
-  pub first : AreFirst input run
+  pub writes : Adds took before now (output_of trace ++ sent)
 
--- how a run ended
-abbrev pub ReplaysTo : {O : Type 0} → (O → List ℕ → Type 0) → (O → Faults) → O → O → Shape → Option (List ℕ) → Option (List ℕ) → ReplayEnd → Type 0
-ReplaysTo took faults before now shape input left Done = ReplaysAll took before now shape input
-ReplaysTo took faults before now shape input left BadLine = ReplaysUntil took before now shape input Refused
-ReplaysTo took faults before now shape input left ReadFault = ReplaysEnded took before now shape input left
-ReplaysTo took faults before now shape input left WantOfMemory = ReplaysFirst took faults before now shape input
-ReplaysTo took faults before now shape input left Spent = ReplaysUntil took before now shape input TooMany
+-- how it ended after these lines, by its status and the number of the line that it tells
+abbrev pub EndsReplay : {O : Type 0} → Reading → (O → O → List ℕ → Type 0) → (O → Faults) → O → O → List TracedLine → Status → Option ℕ → Type 0
+EndsReplay read took faults before now trace Done number = EndsDone read took before now trace
+EndsReplay read took faults before now trace BadLine number = EndsAtBadLine read took before now trace number
+EndsReplay read took faults before now trace ReadFault number = EndsAtReadFault read took before now trace
+EndsReplay read took faults before now trace WriteFault number = EndsAtWriteFault read took faults before now trace
+EndsReplay read took faults before now trace NoMemory number = EndsWithoutMemory read took faults before now trace
+EndsReplay read took faults before now trace Spent number = EndsSpent read took before now trace
+EndsReplay read took faults before now trace BadWords number = ⊥
+EndsReplay read took faults before now trace NotKarma number = ⊥
 
--- What a run with this status came to. What it is where the source failed is `ReplaysEnded`.
-pub record IsReplayed {O : Type 0} (took : O → List ℕ → Type 0) (faults : O → Faults) (before now : O) (shape : Shape) (input : Option (List ℕ)) (status : ℕ) : Type 0 where
-  pub done : status ≡ 0 → ReplaysAll took before now shape input
-  pub bad_line : status ≡ 3 → ReplaysUntil took before now shape input Refused
-  pub part : status ≡ 5 → ReplaysPart took before now shape input
-  pub no_memory : status ≡ 6 → ReplaysFirst took faults before now shape input
-  pub spent : status ≡ 7 → ReplaysUntil took before now shape input TooMany
-  pub accepts : status ≡ 0 → (bytes : List ℕ) → input ≡ Some bytes → IsScript (lines_of bytes)
-  pub accepted : IsWhole status → (bytes : List ℕ) → input ≡ Some bytes → IsScript (lines_of bytes) → status ≡ 0
+-- What a replay that ended so came to: the lines that were replayed, with all that they made and wrote. All is well exactly where the lines of the
+-- input are a script, but for faults and memory.
+pub record ReplaysTo {O : Type 0} (read : Reading) (took : O → O → List ℕ → Type 0) (faults : O → Faults) (before now : O) (shape : Shape) (end : End) : Type 0 where
+  pub trace : List TracedLine
+  pub is_trace : IsTrace shape trace
+  pub ends : EndsReplay read took faults before now trace end.status end.line
+  pub accepts : end.status ≡ Done → (bytes : List ℕ) → read.input ≡ Some bytes → IsScript (lines_of bytes)
+  pub accepted : IsWhole end.status → (bytes : List ℕ) → read.input ≡ Some bytes → IsScript (lines_of bytes) → end.status ≡ Done
+  pub source : Follows read.faults read.faults_now
+  pub sink : Follows (faults before) (faults now)

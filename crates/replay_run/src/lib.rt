@@ -2,6 +2,9 @@
 #![tactic(auto)]
 
 mod replay;
-mod replay_end;
+mod taker;
 
-pub use replay::run_replay;
+pub use replay::{replay_told, run_replay};
+
+/// How many lines of a script are taken at most.
+pub const MOST_LINES: u64 = 1 << 32;

@@ -1,3 +1,5 @@
+//! Scripts, from their lines to their outcomes.
+
 use super::run;
 use std::test::Fail;
 
@@ -26,8 +28,7 @@ fn written(rt: &HostRuntime, lines: usize, last: &[u8]) -> Result<Vec<u8>, Fail>
 }
 
 // So many times the same bytes.
-fn repeat(rt: &HostRuntime, text: &mut Vec<u8>, bytes: &[u8], count: usize) -> Result<(), Fail> {
-    let _alloc = rt.alloc();
+fn repeat(text: &mut Vec<u8>, bytes: &[u8], count: usize) -> Result<(), Fail> {
     for _ in 0..count {
         text.extend_from_slice(bytes)?;
     }
@@ -37,13 +38,13 @@ fn repeat(rt: &HostRuntime, text: &mut Vec<u8>, bytes: &[u8], count: usize) -> R
 #[test]
 fn a_file_in_slices(rt: HostRuntime) -> Result<(), Fail> {
     let mut script = Vec::new(rt.alloc());
-    repeat(&rt, &mut script, b"draw\ngrant 0\n", 3)?;
+    repeat(&mut script, b"draw\ngrant 0\n", 3)?;
     script.extend_from_slice(b"make 0 f file 100\nappend 0 f ")?;
-    repeat(&rt, &mut script, b"a", 64)?;
+    repeat(&mut script, b"a", 64)?;
     script.extend_from_slice(b"\nappend 0 f %\nappend 0 f ")?;
-    repeat(&rt, &mut script, b"b", 65)?;
+    repeat(&mut script, b"b", 65)?;
     script.extend_from_slice(b"\nread 0 f 128 10\nlength 0 f\nappend 0 f ")?;
-    repeat(&rt, &mut script, b"c", 64)?;
+    repeat(&mut script, b"c", 64)?;
     script.extend_from_slice(b"\n")?;
     for piece in PIECES {
         let (status, _, text) = run(&rt, WORDS, script.as_slice(), piece, u64::MAX, u64::MAX)?;
@@ -106,7 +107,7 @@ fn the_longest_line(rt: HostRuntime) -> Result<(), Fail> {
     for (rest, status, want) in cases {
         let mut script = Vec::new(rt.alloc());
         script.extend_from_slice(b"append 0 f ")?;
-        repeat(&rt, &mut script, b"%00", 87_377)?;
+        repeat(&mut script, b"%00", 87_377)?;
         script.extend_from_slice(rest)?;
         let (found, _, text) = run(&rt, WORDS, script.as_slice(), 65_536, u64::MAX, u64::MAX)?;
         assert_eq!(rt; found, status);
@@ -140,23 +141,27 @@ fn each_read_that_fails(rt: HostRuntime) -> Result<(), Fail> {
     Ok(())
 }
 
-// After a fault of the sink, it holds a beginning of the text.
+// The whole script is read at once, so that what its lines write goes out before the last line of the status.
 #[test]
 fn each_write_that_fails(rt: HostRuntime) -> Result<(), Fail> {
     let mut script = Vec::from_slice(rt.alloc(), SCRIPT)?;
     script.extend_from_slice(b"x\n")?;
-    let whole = written(&rt, 5, b"bad line 6\n")?;
-    for call in 0..100u64 {
-        let (status, faults, text) = run(&rt, WORDS, script.as_slice(), 64, u64::MAX, call)?;
+    for call in 0..100usize {
+        let (status, faults, text) = run(&rt, WORDS, script.as_slice(), 64, u64::MAX, call as u64)?;
         if faults == 0 {
-            assert!(rt; call >= 6);
+            assert_eq!(rt; call, 2);
             assert_eq!(rt; status, 3);
-            assert_eq!(rt; text.as_slice(), whole.as_slice());
+            assert_eq!(rt;
+                text.as_slice(),
+                written(&rt, 5, b"bad line 6\n")?.as_slice()
+            );
             break;
         }
         assert_eq!(rt; status, 5);
-        assert!(rt; text.len() < whole.len());
-        assert!(rt; whole.as_slice().starts_with(text.as_slice()));
+        assert_eq!(rt;
+            text.as_slice(),
+            written(&rt, call.saturating_mul(5), b"")?.as_slice()
+        );
     }
     Ok(())
 }
