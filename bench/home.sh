@@ -1,17 +1,23 @@
 #!/usr/bin/env bash
 # Measures a file in a home: nanoseconds for an append and for a read of 64 bytes and of 64 KiB, beside 1,000 and 1,000,000 blocks. The cost of a
 # call may grow with its bytes, and not with the count of blocks.
-set -eu
+set -euo pipefail
 here=$(cd "$(dirname "${BASH_SOURCE[0]}")" && pwd)
-program=$here/../crates/home_bench/out/home_bench
-[ -x "$program" ] || (cd "$here/../crates/home_bench" && rt run) </dev/null >&2 || [ -x "$program" ]
-echo "processors $(nproc)"
+. "$here/built.sh"
+use_far_bench
+echo "processors $(nproc), load $(cut -d' ' -f1-3 /proc/loadavg)"
+calls=1000
 for size in 64 65536; do
   for blocks in 1000 1000000; do
     for piece in 64 65536; do
       [ "$size" = 65536 ] && [ "$blocks" = 1000000 ] && continue # 64 GiB
-      calls=1000
-      echo "slices of $size bytes, $blocks blocks, calls of $piece bytes: $("$program" "$size" "$blocks" "$piece" "$calls")"
+      figures=$("$program" home "$size" "$blocks" "$piece" "$calls")
+      length=$(echo "$figures" | awk '{ print $2 }')
+      if [ "$length" != $((size * blocks + piece * calls)) ]; then
+        echo "slices of $size bytes, $blocks blocks, calls of $piece bytes: the file is $length bytes long" >&2
+        exit 1
+      fi
+      echo "slices of $size bytes, $blocks blocks, calls of $piece bytes: $figures"
     done
   done
 done

@@ -2,20 +2,18 @@
 # Measures Karma's rule alone: microseconds a quantum at 10, 100 and 1,000 users, with small shares and with the greatest, and demands up to 2, 3 and 1,024
 # fair shares. Both sizes run in turn in one process, over the same choices. Each figure is the median of so many runs; the ratio is that of the run in
 # the middle, with the least and the greatest of all runs. Ratios hold within one run; the figures of other machines differ. quantum.sh [RUNS] [SEED]
-set -eu
+set -euo pipefail
 here=$(cd "$(dirname "${BASH_SOURCE[0]}")" && pwd)
-program=$here/../crates/karma_bench/out/karma_bench
 runs=${1:-7} seed=${2:-20261201}
-
-# 'rt run' runs what it built: with no words the program prints its usage and ends with status 2.
-[ -x "$program" ] || (cd "$here/../crates/karma_bench" && rt run) < /dev/null >&2 || [ -x "$program" ]
+. "$here/built.sh"
+use_far_bench
 
 echo "processors $(nproc), load $(cut -d' ' -f1-3 /proc/loadavg), $runs runs"
 echo "users  demands up to        small     greatest   greatest / small"
 for users in 10 100 1000; do
   for times in 2 3 1024; do
     for ((run = 0; run < runs; run++)); do
-      "$program" "$users" $((2000000 / users > 20000 ? 20000 : 2000000 / users)) "$times" $((seed + run))
+      "$program" quantum "$users" $((2000000 / users > 20000 ? 20000 : 2000000 / users)) "$times" $((seed + run)) || exit 1
     done | tr -d , | awk '{ print $2, $5, $5 / $2 }' | awk -v users="$users" -v times="$times" '
       function middle(values, count,    i, j, t) {
         for (i = 2; i <= count; i++) for (j = i; j > 1 && values[j] < values[j - 1]; j--) { t = values[j]; values[j] = values[j - 1]; values[j - 1] = t }

@@ -1,0 +1,134 @@
+//! Measures a home with a file in it, a turn cell beside a mutex, and Karma's rule.
+//!
+//! The words are `home SIZE BLOCKS PIECE CALLS`, `cell THREADS CALLS`, `mutex THREADS CALLS`, `quantum USERS QUANTA TIMES SEED` or `check`. The last makes
+//! a little of each, and prints what is the same on every machine: counts and results, and no time.
+#![tactic(auto)]
+
+mod home;
+mod quantum;
+mod threads;
+mod words;
+mod worker;
+
+use home::HomeWork;
+use quantum::QuantumWork;
+use std::env;
+use std::process::ExitCode;
+use std::rt::Clock;
+use std::sync::Wait;
+use std::thread::Threads;
+use threads::{Kind, ThreadWork};
+use words::nanos_each;
+
+/// What is to be measured.
+#[derive(Clone, Copy)]
+enum Work {
+    Home(HomeWork),
+    Threads(ThreadWork),
+    Quantum(QuantumWork),
+    Check,
+}
+
+fn read_work(words: &[String]) -> Option<Work> {
+    match words.get(0)?.as_str() {
+        "home" => Some(Work::Home(home::read_work(words)?)),
+        "cell" => Some(Work::Threads(threads::read_work(words, Kind::Cell)?)),
+        "mutex" => Some(Work::Threads(threads::read_work(words, Kind::Mutex)?)),
+        "quantum" => Some(Work::Quantum(quantum::read_work(words)?)),
+        "check" => Some(Work::Check),
+        _ => None,
+    }
+}
+
+fn measure_home<R: Clock + AllocGlobal + Print>(
+    rt: &R,
+    work: HomeWork,
+) -> anyhow::Result<ExitCode> {
+    let Some(times) = home::measure(rt, work)? else {
+        println!(rt; "the home is full")?;
+        return Ok(ExitCode::from(1));
+    };
+    let append = nanos_each(times.appends, u64::from(work.calls));
+    let read = nanos_each(times.reads, u64::from(work.calls));
+    println!(rt; "length {} append {append} ns read {read} ns", times.length)?;
+    Ok(ExitCode::from(0))
+}
+
+fn measure_threads<R: Clock + AllocGlobal + Print + Threads + Wait + Sync>(
+    rt: &R,
+    work: ThreadWork,
+) -> anyhow::Result<ExitCode> {
+    let (time, number) = threads::measure(rt, work)?;
+    let made = work.calls_in_all();
+    let each = nanos_each(time, made);
+    println!(rt;
+        "{} {} threads: {made} calls, {each} ns a call, then {number}",
+        work.kind, work.threads
+    )?;
+    Ok(ExitCode::from(0))
+}
+
+fn measure_quantum<R: Clock + AllocGlobal + Print>(
+    rt: &R,
+    work: QuantumWork,
+) -> anyhow::Result<ExitCode> {
+    let mut times = quantum::measure(rt, work)?;
+    println!(rt;
+        "small {} ns, greatest {} ns",
+        quantum::usual_time(times.small.as_mut_slice()),
+        quantum::usual_time(times.greatest.as_mut_slice())
+    )?;
+    Ok(ExitCode::from(0))
+}
+
+// A little of each measurement, and what comes of it whatever the machine and the order of the threads.
+fn check<R: Clock + AllocGlobal + Print + Threads + Wait + Sync>(
+    rt: &R,
+) -> anyhow::Result<ExitCode> {
+    match home::measure(rt, home::little())? {
+        Some(times) => {
+            println!(rt;
+                "home: length {}, bytes read add up to {}",
+                times.length, times.sum
+            )?;
+        }
+        None => println!(rt; "home: full")?,
+    }
+    for kind in [Kind::Cell, Kind::Mutex] {
+        let work = ThreadWork {
+            kind,
+            threads: 4,
+            calls: 25,
+        };
+        let (_, number) = threads::measure(rt, work)?;
+        println!(rt; "{kind}: {} calls, then {number}", work.calls_in_all())?;
+    }
+    let times = quantum::measure(rt, quantum::little())?;
+    println!(rt;
+        "quantum: {} and {} quanta, the last of {} and {} slices",
+        times.small.len(),
+        times.greatest.len(),
+        times.small_given,
+        times.greatest_given
+    )?;
+    Ok(ExitCode::from(0))
+}
+
+fn main(rt: HostRuntime) -> anyhow::Result<ExitCode> {
+    let mut words = Vec::new(rt.alloc());
+    for word in env::args(&rt)?.skip(1) {
+        words.push(word)?;
+    }
+    match read_work(words.as_slice()) {
+        Some(Work::Home(work)) => measure_home(&rt, work),
+        Some(Work::Threads(work)) => measure_threads(&rt, work),
+        Some(Work::Quantum(work)) => measure_quantum(&rt, work),
+        Some(Work::Check) => check(&rt),
+        None => {
+            eprintln!(rt;
+                "words: home SIZE BLOCKS PIECE CALLS, cell THREADS CALLS, mutex THREADS CALLS, quantum USERS QUANTA TIMES SEED, or check"
+            )?;
+            Ok(ExitCode::from(2))
+        }
+    }
+}

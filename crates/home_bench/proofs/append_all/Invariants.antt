@@ -1,5 +1,0 @@
-use Rattle.block_file.specs.Files.{IsSound}
-use Rattle.home_bench.proofs.append_all.Given as goal
-
-abbrev pub invariant-loop-call : goal.invariant-loop-call
-invariant-loop-call l = IsSound l.home l.file
