@@ -1,6 +1,6 @@
 //! Bytes and numbers to a sink.
 
-ghost use Rattle.std.specs.Prelude.{◌≡◌, ◌+◌, ◌≤◌, length, take, decimal, OnErr, OnOk};
+ghost use Rattle.std.specs.Prelude.{◌≡◌, ◌+◌, ◌≤◌, [], length, take, decimal, OnErr, OnOk};
 ghost use Rattle.far_io.specs.Faults.{HasCause};
 ghost use Rattle.far_io.specs.Adds.{Adds, AddsPrefix};
 
@@ -32,6 +32,7 @@ pub(crate) fn give_most<O: Sink>(sink: &mut O, bytes: &[u8]) -> (usize, Result<(
     ensures bound { result.0 ≤ length bytes.now }
     ensures all { OnOk result.1 (result.0 ≡ length bytes.now) }
     ensures bytes { Adds O.took sink.old sink.new (take result.0 bytes.now) }
+    ensures still { bytes.now ≡ [] → sink.new ≡ sink.old }
     ensures cause { HasCause (O.faults sink.old) (O.faults sink.new) result.1 }
 {
     let mut done = 0;

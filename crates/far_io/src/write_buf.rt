@@ -105,9 +105,11 @@ impl<'a, O: Sink> WriteBuf<'a, O> {
         WriteBuf { sink, room }
     }
 
-    /// Passes on all that is held. After a fault it holds what the sink behind it didn't take.
+    /// Passes on all that is held. After a fault it holds what the sink behind it didn't take. Where nothing is held,
+    /// nothing changes.
     pub fn pass_on(&mut self) -> Result<(), WriteFault>
         ensures empty { OnOk result (self.new.room.now ≡ []) }
+        ensures still { self.old.room.now ≡ [] → self.new ≡ self.old }
         ensures bytes { Adds (BufTook O.took) self.old self.new [] }
         ensures cause { HasCause (O.faults self.old.sink.now) (O.faults self.new.sink.now) result }
     {

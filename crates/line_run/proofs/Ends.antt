@@ -99,11 +99,12 @@ module _ {R O : Type 0} (rules : LineRules R) (read : Reading) (took : O → O �
   }
 
   -- the source failed
-  pub runs_to_fault : end.status ≡ ReadFault → Rose read.faults read.faults_now → Follows (faults before) (faults now) → RunsTo rules read took faults before now first end
-  runs_to_fault is_fault rose sink = record {
+  pub runs_to_fault : end.status ≡ ReadFault → (rules.quiet → now ≡ before) → Rose read.faults read.faults_now → Follows (faults before) (faults now)
+      → RunsTo rules read took faults before now first end
+  runs_to_fault is_fault unsent rose sink = record {
     known = λ is. absurd (cc);
     whole = λ whole. absurd (subst IsWhole is_fault whole);
-    read_fault = λ is. record { chunks = comes.chunks; last = comes.last; path = comes.path; firsts = (comes.ended is_fault).0; ended = (comes.ended is_fault).1; adds = comes.adds; rose = rose };
+    read_fault = λ is. record { chunks = comes.chunks; last = comes.last; path = comes.path; firsts = (comes.ended is_fault).0; ended = (comes.ended is_fault).1; adds = comes.adds; unsent = unsent; rose = rose };
     write_fault = λ is. absurd (cc);
     no_memory = λ is. absurd (cc);
     source = source;

@@ -1,5 +1,5 @@
 -- Two writes, one after the other.
-use Rattle.std.proofs.Common.{◌≡◌, ℕ, List, ◌++◌, Result, Ok, Err, OnOk, OnErr, ◌∙◌, ap, append_assoc}
+use Rattle.std.proofs.Common.{◌≡◌, ℕ, List, ◌++◌, Result, Ok, Err, OnOk, OnErr, sym, ◌∙◌, ap, subst, append_assoc}
 use Rattle.far_io.specs.Adds.{Adds, AddsPrefix}
 use Rattle.far_io.specs.Sends.{Sends}
 use Rattle.far_io.proofs.Adds.{adds_more, adds_equal}
@@ -39,3 +39,7 @@ module _ {O : Type 0} (took : O → O → List ℕ → Type 0) (a b c : O) (held
 -- a prefix of equal bytes
 pub prefix_equal : {O : Type 0} (took : O → O → List ℕ → Type 0) (a b : O) (xs ys : List ℕ) → xs ≡ ys → AddsPrefix took a b xs → AddsPrefix took a b ys
 prefix_equal took a b xs ys same fault = record { sent = fault.sent; unsent = fault.unsent; whole = fault.whole ∙ same; adds = fault.adds }
+
+-- what changes nothing while it is empty, and was empty at first, is as it was at first
+pub unmoved : {O : Type 0} (is_empty : O → Type 0) (first before now : O) → before ≡ first → is_empty first → (is_empty before → now ≡ before) → now ≡ first
+unmoved is_empty first before now same empty still = still (subst is_empty (sym same) empty) ∙ same

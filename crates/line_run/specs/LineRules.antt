@@ -18,6 +18,8 @@ pub record LineRules (R : Type 0) : Type 1 where
   pub stops : R → List ℕ → End → List ℕ → Type 0
   -- at the end of the input the run ends, with this last text
   pub over : R → End → List ℕ → Type 0
+  -- whatever the line, nothing is written for it
+  pub quiet : Type 0
 
 -- a taker ends a run itself: neither the source nor the sink failed
 abbrev pub IsOwnEnd : Status → Type 0

@@ -54,6 +54,7 @@ pub record RunsToFault {R O : Type 0} (rules : LineRules R) (read : Reading) (to
   pub firsts : FirstLines read.input chunks
   pub ended : EndedLines read.input read.left chunks
   pub adds : Adds took before now (texts_of chunks)
+  pub unsent : rules.quiet → now ≡ before
   pub rose : Rose read.faults read.faults_now
 
 -- The sink failed within the text of the lines that were taken and the last text, if the run came to one.

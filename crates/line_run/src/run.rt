@@ -1,8 +1,9 @@
 //! The loop that reads lines and has them taken.
 
-ghost use Rattle.std.specs.Prelude.{◌≡◌, ◌≢◌, ℕ, ◌<◌, List, [], Ok, None, false, IfOk, OnErr, ◌⊎◌};
+ghost use Rattle.std.specs.Prelude.{◌≡◌, ◌≢◌, ℕ, ◌<◌, List, [], Ok, None, false, IfOk, OnOk, OnErr, ◌⊎◌};
 ghost use Rattle.far_io.specs.Adds.{Adds};
 ghost use Rattle.far_io.specs.Faults.{Rose, Follows, HasCause};
+ghost use Rattle.far_io.specs.LineView.{AnswersAtOnce};
 ghost use Rattle.run_end.specs.Why.{status_of, end_of};
 ghost use Rattle.run_end.specs.declared.TheConstants.{MOST_LINE};
 ghost use Rattle.line_run.specs.LineRules.{IsOwnEnd};
@@ -14,13 +15,20 @@ use run_end::{Status, Why};
 
 // A sink that gathers what it takes, and passes it on when it is told to.
 trait PassesOn: Sink {
+    // It holds nothing back.
+    ghost is_empty: { Self → Type 0 };
+
     // Passes on all that it gathered, which changes nothing of what it took.
     fn pass_on(&mut self) -> Result<(), WriteFault>
+        ensures empty { OnOk result (is_empty self.new) }
         ensures bytes { Adds Self.took self.old self.new [] }
+        ensures still { is_empty self.old → self.new ≡ self.old }
         ensures cause { HasCause (Self.faults self.old) (Self.faults self.new) result };
 }
 
 impl<'a, O: Sink> PassesOn for WriteBuf<'a, O> {
+    ghost is_empty = { λ b. b.room.now ≡ [] };
+
     fn pass_on(&mut self) -> Result<(), WriteFault> {
         WriteBuf::pass_on(self)
     }
@@ -29,7 +37,9 @@ impl<'a, O: Sink> PassesOn for WriteBuf<'a, O> {
 // Passes on what was gathered, where the next line isn't ahead, and may have to be waited for.
 fn pass_on_before_wait<B: PassesOn>(line: &mut LineBuf, out: &mut B) -> Result<(), WriteFault>
     ensures kept { line.new ≡ line.old }
+    ensures passed { OnOk result (AnswersAtOnce line.old ⊎ B.is_empty out.new) }
     ensures bytes { Adds B.took out.old out.new [] }
+    ensures still { B.is_empty out.old → out.new ≡ out.old }
     ensures cause { HasCause (B.faults out.old) (B.faults out.new) result }
 {
     if line.has_line() {
@@ -55,6 +65,7 @@ fn take_lines<T: LineTaker, S: Source, B: PassesOn>(
     ensures breaks { OnErr result (BreaksOff T.rules
         (reading S.left S.faults source.old source.new)
         B.took B.faults out.old out.new taker.old) }
+    ensures quiet { T.rules.quiet → B.is_empty out.old → out.new ≡ out.old }
     ensures holds { IfOk result (λ _. T.holds taker.new) }
     ensures fault { result ≡ Ok Why.ReadFault → Rose (S.faults source.old) (S.faults source.new) }
     ensures source { Follows (S.faults source.old) (S.faults source.new) }
@@ -92,6 +103,7 @@ fn take_gathered<T: LineTaker, S: Source, O: Sink>(
         O.took sink.old sink.new taker.old (end_of why) (T.last_text taker.new line.new.line why)) }
     ensures breaks { OnErr result (BreaksOff T.rules (reading S.left S.faults source.old source.new)
         O.took O.faults sink.old sink.new taker.old) }
+    ensures quiet { T.rules.quiet → sink.new ≡ sink.old }
     ensures holds { IfOk result (λ _. T.holds taker.new) }
     ensures fault { result ≡ Ok Why.ReadFault → Rose (S.faults source.old) (S.faults source.new) }
     ensures source { Follows (S.faults source.old) (S.faults source.new) }

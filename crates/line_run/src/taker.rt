@@ -31,6 +31,7 @@ pub trait LineTaker {
         requires short { length line.now ≤ MOST_LINE }
         ensures comes { ComesOfLine rules O.took (last_text self.new line.now) sink.old sink.new
             self.old self.new line.now result }
+        ensures quiet { rules.quiet → sink.new ≡ sink.old }
         ensures holds { IfOk result (λ _. holds self.new) }
         ensures ends { result ≡ Ok None → lines_left self.new < lines_left self.old }
         ensures cause { HasCause (O.faults sink.old) (O.faults sink.new) result };

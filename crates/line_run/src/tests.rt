@@ -21,6 +21,7 @@ impl LineTaker for Echo {
       takes = λ _ _ _. Unit {0};
       stops = λ _ _ _ _. Unit {0};
       over = λ _ _ _. Unit {0};
+      quiet = ⊥;
     } };
 
     ghost holds = { λ _. Unit {0} };

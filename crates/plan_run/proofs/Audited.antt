@@ -1,5 +1,5 @@
 -- What a run of `audit` came to.
-use Rattle.std.proofs.Common.{◌≡◌, ℕ, ◌+◌, ◌*◌, ◌-◌, ◌<◌, ◌≤◌, ◌^◌, ◌&&◌, Bool, true, false, cond, nat_le, List, [], ◌∷◌, ◌++◌, length, map, replicate, Option, Some, None, refl, sym, ◌∙◌, ap, subst, inl, inr, lit<, append-nil, arith}
+use Rattle.std.proofs.Common.{◌≡◌, ℕ, ◌+◌, ◌*◌, ◌-◌, ◌<◌, ◌≤◌, ◌^◌, ◌&&◌, Bool, true, false, cond, nat_le, List, [], ◌∷◌, ◌++◌, length, map, replicate, Option, Some, None, refl, sym, ◌∙◌, ap, subst, inl, inr, lit<, arith}
 use Rattle.std.specs.Prelude.{Contains}
 use Rattle.std.specs.List.{All}
 use Rattle.std.specs.Str.{bytes_eq}
@@ -8,7 +8,7 @@ use Rattle.std.proofs.lemmas.List.Elements.{All-replicate, All-map}
 use Rattle.far_io.specs.Faults.{Faults}
 use Rattle.far_io.specs.Left.{IsAtEnd}
 use Rattle.far_io.specs.Lines.{lines_of}
-use Rattle.far_io.proofs.Adds.{adds_nothing, adds_equal}
+use Rattle.far_io.proofs.Adds.{adds_nothing}
 use Rattle.far_io.proofs.Faults.{follows_itself}
 use Rattle.karma_rule.specs.declared.row.Row.{Row}
 use Rattle.karma_rule.specs.declared.shape.Shape.{Shape}
@@ -22,9 +22,8 @@ use Rattle.run_end.specs.Status.{IsWhole}
 use Rattle.run_end.specs.Why.{End}
 use Rattle.run_end.specs.declared.status.Status.{Status}
 use Rattle.run_end.specs.declared.status.Status.TheVariants.{Done, BadWords, BadLine, ReadFault, WriteFault, NoMemory, Spent, NotKarma}
-use Rattle.line_run.specs.Chunks.{Chunk, Path, lines_taken, texts_of}
+use Rattle.line_run.specs.Chunks.{Chunk, lines_taken}
 use Rattle.line_run.specs.Runs.{Reading, reading, EndsAfter, RunsTo}
-use Rattle.line_run.proofs.Growing.{texts_none, texts_first}
 use Rattle.plan_run.specs.declared.audit.Audit.{Audit}
 use Rattle.plan_run.specs.Ending.{Ending, ends_as, ends_at}
 use Rattle.plan_run.specs.AuditText.{AuditState, audit_state, audit_one, audit_over, audit_end, audited, bad_ending, judged, read_as, due_numbers, wanted, is_first, not_karma, after_demands}
@@ -95,18 +94,6 @@ unfolding after_as
 done_over read chunks last end text (inl at_line) done =
     absurd (subst IsNotDone (ap (λ (e : Ending). e.end.status) (at_line.1 (λ _. after_as BadLine)) ∙ done) (one_end IsNotDone (auditing last) at_line.0 (after_as BadLine) tt tt tt tt))
 done_over read chunks last end text (inr over) done = over.2
-
--- nothing is written for a line that is taken
-no_text : (first last : Audit) (chunks : List Chunk) → Path audit_rules.takes first chunks last → texts_of chunks ≡ []
-unfolding after_as
-no_text first last [] path = texts_none
-no_text first last (chunk ∷ chunks) path =
-    let step : audit_one (auditing first) chunk.line (λ _. after_as Done) ≡ record { text = chunk.text ++ []; end = ends_as Done } = path.1.0 (λ _. after_as Done) in
-    let empty : (audit_one (auditing first) chunk.line (λ _. after_as Done)).end.status ≡ Done → (audit_one (auditing first) chunk.line (λ _. after_as Done)).text ≡ [] =
-    one_case (λ e. e.end.status ≡ Done → e.text ≡ []) (after_as Done) (auditing first) chunk.line
-    (cond_case (λ e. e.end.status ≡ Done → e.text ≡ []) (is_first first.kind && nat_le (2 ^ 28) first.book.quanta) _ _ (λ is. absurd (cc)) (λ is. absurd (cc))) (λ is. refl) (λ is. absurd (cc)) in
-    let text : chunk.text ≡ [] = sym (append-nil chunk.text) ∙ sym (ap (λ (e : Ending). e.text) step) ∙ empty (ap (λ (e : Ending). e.end.status) step) in
-    texts_first chunk chunks ∙ ap (λ t. t ++ texts_of chunks) text ∙ no_text path.0 last chunks path.2
 
 -- ---- each log that was read so far can be completed
 
@@ -184,26 +171,26 @@ module _ {O : Type 0} (read : Reading) (took : O → O → List ℕ → Type 0) 
   never_short is = let short = run.no_memory is in subst IsAuditEnd is (known_end read short.chunks short.last end short.text short.ends)
 
   part_by : (status : Status) → end.status ≡ status → WritesPrefix took before now read.input (audit_end (auditing first))
-  part_by Done is = whole_part auditing IsFit audit_one audit_over audit_end audit_over_is audit_line_is read took faults before now first end (run.whole (subst IsWhole (sym is) tt))
+  part_by Done is = whole_part (Unit {0}) auditing IsFit audit_one audit_over audit_end audit_over_is audit_line_is read took faults before now first end (run.whole (subst IsWhole (sym is) tt))
   part_by BadWords is = absurd (run.known is)
-  part_by BadLine is = whole_part auditing IsFit audit_one audit_over audit_end audit_over_is audit_line_is read took faults before now first end (run.whole (subst IsWhole (sym is) tt))
-  part_by ReadFault is = fault_part auditing IsFit audit_one audit_over audit_end audit_over_is audit_line_is read took faults before now first (run.read_fault is)
-  part_by WriteFault is = break_part auditing IsFit audit_one audit_over audit_end audit_over_is audit_line_is read took faults before now first (run.write_fault is)
+  part_by BadLine is = whole_part (Unit {0}) auditing IsFit audit_one audit_over audit_end audit_over_is audit_line_is read took faults before now first end (run.whole (subst IsWhole (sym is) tt))
+  part_by ReadFault is = fault_part (Unit {0}) auditing IsFit audit_one audit_over audit_end audit_over_is audit_line_is read took faults before now first (run.read_fault is)
+  part_by WriteFault is = break_part (Unit {0}) auditing IsFit audit_one audit_over audit_end audit_over_is audit_line_is read took faults before now first (run.write_fault is)
   part_by NoMemory is = absurd (never_short is)
-  part_by Spent is = whole_part auditing IsFit audit_one audit_over audit_end audit_over_is audit_line_is read took faults before now first end (run.whole (subst IsWhole (sym is) tt))
-  part_by NotKarma is = whole_part auditing IsFit audit_one audit_over audit_end audit_over_is audit_line_is read took faults before now first end (run.whole (subst IsWhole (sym is) tt))
+  part_by Spent is = whole_part (Unit {0}) auditing IsFit audit_one audit_over audit_end audit_over_is audit_line_is read took faults before now first end (run.whole (subst IsWhole (sym is) tt))
+  part_by NotKarma is = whole_part (Unit {0}) auditing IsFit audit_one audit_over audit_end audit_over_is audit_line_is read took faults before now first end (run.whole (subst IsWhole (sym is) tt))
 
   ends_as_audited : IsWhole end.status → EndsAs read.input (audited shape) end
   ends_as_audited whole = subst (λ (s : AuditState). EndsAs read.input (audit_end s) end) opens_as
-      (whole_ends auditing IsFit audit_one audit_over audit_end audit_over_is audit_line_is read took faults before now first end (run.whole whole))
+      (whole_ends (Unit {0}) auditing IsFit audit_one audit_over audit_end audit_over_is audit_line_is read took faults before now first end (run.whole whole))
 
   seen_at : IsPlan shape → end.status ≡ ReadFault → Seen read.input read.left (λ lines. (more : List (List ℕ)) × IsKarmaLog shape (lines ++ more))
   seen_at plan is = λ bytes told.
       let fault = run.read_fault is in
       let ended = fault.ended bytes told in
-      let fit = fits_last auditing IsFit audit_one audit_over audit_end audit_over_is audit_line_is first fault.last fault.chunks fault.path (subst IsFit (sym opens_as) (fit_opening shape plan)) in
+      let fit = fits_last (Unit {0}) auditing IsFit audit_one audit_over audit_end audit_over_is audit_line_is first fault.last fault.chunks fault.path (subst IsFit (sym opens_as) (fit_opening shape plan)) in
       let more = completed fault.last.kind fault.last.book fault.last.number fit in
-      let whole = path_is auditing IsFit audit_one audit_over audit_end audit_over_is audit_line_is first fault.last fault.chunks fault.path more.0 in
+      let whole = path_is (Unit {0}) auditing IsFit audit_one audit_over audit_end audit_over_is audit_line_is first fault.last fault.chunks fault.path more.0 in
       let done : (audited shape (lines_taken fault.chunks ++ more.0)).end.status ≡ Done =
       ap (λ (s : AuditState). (audit_end s (lines_taken fault.chunks ++ more.0)).end.status) (sym opens_as) ∙ ap (λ (e : Ending). e.end.status) whole ∙ more.1 in (
         record { lines = lines_taken fault.chunks; rest = ended.0; left_is = ended.1; read = ended.2 },
@@ -214,11 +201,11 @@ module _ {O : Type 0} (read : Reading) (took : O → O → List ℕ → Type 0) 
   audited_to plan = record {
     listed = listed_by end.status run.known;
     whole = λ whole. subst (λ (s : AuditState). WritesText took before now read.input (audit_end s)) opens_as
-        (whole_text auditing IsFit audit_one audit_over audit_end audit_over_is audit_line_is read took faults before now first end (run.whole whole));
+        (whole_text (Unit {0}) auditing IsFit audit_one audit_over audit_end audit_over_is audit_line_is read took faults before now first end (run.whole whole));
     ends = ends_as_audited;
     part = subst (λ (s : AuditState). WritesPrefix took before now read.input (audit_end s)) opens_as (part_by end.status refl);
     seen = seen_at plan;
-    unsent = λ is. let fault = run.read_fault is in adds_equal took before now (texts_of fault.chunks) [] (no_text first fault.last fault.chunks fault.path) fault.adds;
+    unsent = λ is. (run.read_fault is).unsent tt;
     accepts = λ is bytes told. accepts shape (lines_of bytes) (ap (λ (e : End). e.status) (ends_as_audited (subst IsWhole (sym is) tt) bytes told) ∙ is);
     accepted = λ whole bytes told log. ap (λ (e : End). e.status) (sym (ends_as_audited whole bytes told)) ∙ accepted shape (lines_of bytes) plan log;
     at_end = λ is. let run_end = run.whole (subst IsWhole (sym is) tt) in done_over read run_end.chunks run_end.last end run_end.text run_end.ends is;

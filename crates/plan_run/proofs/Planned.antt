@@ -97,13 +97,13 @@ module _ {O : Type 0} (read : Reading) (took : O → O → List ℕ → Type 0) 
   never_differs is = let whole = run.whole (subst IsWhole (sym is) tt) in subst IsPlanEnd is (known_end read whole.chunks whole.last end whole.text whole.ends)
 
   part_by : (status : Status) → end.status ≡ status → WritesPrefix took before now read.input (plan_end first.book)
-  part_by Done is = whole_part plan_book (λ _. Unit {0}) plan_one plan_over plan_end plan_nothing plan_line_is read took faults before now first end (run.whole (subst IsWhole (sym is) tt))
+  part_by Done is = whole_part ⊥ plan_book (λ _. Unit {0}) plan_one plan_over plan_end plan_nothing plan_line_is read took faults before now first end (run.whole (subst IsWhole (sym is) tt))
   part_by BadWords is = absurd (run.known is)
-  part_by BadLine is = whole_part plan_book (λ _. Unit {0}) plan_one plan_over plan_end plan_nothing plan_line_is read took faults before now first end (run.whole (subst IsWhole (sym is) tt))
-  part_by ReadFault is = fault_part plan_book (λ _. Unit {0}) plan_one plan_over plan_end plan_nothing plan_line_is read took faults before now first (run.read_fault is)
-  part_by WriteFault is = break_part plan_book (λ _. Unit {0}) plan_one plan_over plan_end plan_nothing plan_line_is read took faults before now first (run.write_fault is)
+  part_by BadLine is = whole_part ⊥ plan_book (λ _. Unit {0}) plan_one plan_over plan_end plan_nothing plan_line_is read took faults before now first end (run.whole (subst IsWhole (sym is) tt))
+  part_by ReadFault is = fault_part ⊥ plan_book (λ _. Unit {0}) plan_one plan_over plan_end plan_nothing plan_line_is read took faults before now first (run.read_fault is)
+  part_by WriteFault is = break_part ⊥ plan_book (λ _. Unit {0}) plan_one plan_over plan_end plan_nothing plan_line_is read took faults before now first (run.write_fault is)
   part_by NoMemory is = absurd (never_short is)
-  part_by Spent is = whole_part plan_book (λ _. Unit {0}) plan_one plan_over plan_end plan_nothing plan_line_is read took faults before now first end (run.whole (subst IsWhole (sym is) tt))
+  part_by Spent is = whole_part ⊥ plan_book (λ _. Unit {0}) plan_one plan_over plan_end plan_nothing plan_line_is read took faults before now first end (run.whole (subst IsWhole (sym is) tt))
   part_by NotKarma is = absurd (never_differs is)
 
   -- what is planned for the lines of chunks that were taken
@@ -115,7 +115,7 @@ module _ {O : Type 0} (read : Reading) (took : O → O → List ℕ → Type 0) 
   seen_at is = λ bytes told.
       let fault = run.read_fault is in
       let ended = fault.ended bytes told in
-      let whole = chunks_planned fault.last fault.chunks (chunks_are plan_book (λ _. Unit {0}) plan_one plan_over plan_end plan_nothing plan_line_is first fault.last fault.chunks fault.path) in (
+      let whole = chunks_planned fault.last fault.chunks (chunks_are ⊥ plan_book (λ _. Unit {0}) plan_one plan_over plan_end plan_nothing plan_line_is first fault.last fault.chunks fault.path) in (
         record { lines = lines_taken fault.chunks; rest = ended.0; left_is = ended.1; read = ended.2 },
         (adds_equal took before now (texts_of fault.chunks) (planned shape (lines_taken fault.chunks)).text (sym (ap (λ (e : Ending). e.text) whole)) fault.adds, ap (λ (e : Ending). e.end.status) whole),
       )
@@ -124,7 +124,7 @@ module _ {O : Type 0} (read : Reading) (took : O → O → List ℕ → Type 0) 
   log_at plan is =
       let run_end = run.whole (subst IsWhole (sym is) tt) in
       let over = done_lines read run_end.chunks run_end.last end run_end.text run_end.ends is in
-      let whole = chunks_planned run_end.last run_end.chunks (chunks_are plan_book (λ _. Unit {0}) plan_one plan_over plan_end plan_nothing plan_line_is first run_end.last run_end.chunks run_end.path) in
+      let whole = chunks_planned run_end.last run_end.chunks (chunks_are ⊥ plan_book (λ _. Unit {0}) plan_one plan_over plan_end plan_nothing plan_line_is first run_end.last run_end.chunks run_end.path) in
       let text_is : (planned shape (lines_taken run_end.chunks)).text ≡ texts_of run_end.chunks = ap (λ (e : Ending). e.text) whole in
       record {
         text = texts_of run_end.chunks;
@@ -137,9 +137,9 @@ module _ {O : Type 0} (read : Reading) (took : O → O → List ℕ → Type 0) 
   planned_to plan = record {
     listed = listed_by end.status run.known never_differs;
     whole = λ whole. subst (λ (b : BookView). WritesText took before now read.input (plan_end b)) opens
-        (whole_text plan_book (λ _. Unit {0}) plan_one plan_over plan_end plan_nothing plan_line_is read took faults before now first end (run.whole whole));
+        (whole_text ⊥ plan_book (λ _. Unit {0}) plan_one plan_over plan_end plan_nothing plan_line_is read took faults before now first end (run.whole whole));
     ends = λ whole. subst (λ (b : BookView). EndsAs read.input (plan_end b) end) opens
-        (whole_ends plan_book (λ _. Unit {0}) plan_one plan_over plan_end plan_nothing plan_line_is read took faults before now first end (run.whole whole));
+        (whole_ends ⊥ plan_book (λ _. Unit {0}) plan_one plan_over plan_end plan_nothing plan_line_is read took faults before now first end (run.whole whole));
     part = subst (λ (b : BookView). WritesPrefix took before now read.input (plan_end b)) opens (part_by end.status refl);
     seen = seen_at;
     log = log_at plan;

@@ -22,7 +22,7 @@ pub record IsFit (state : AuditState) : Type 0 where
   pub left : state.kind ≡ Demand → state.book.quanta < QUANTA
 
 abbrev pub audit_rules : LineRules Audit
-audit_rules = rules_of auditing IsFit audit_one audit_over
+audit_rules = rules_of (Unit {0}) auditing IsFit audit_one audit_over
 
 -- what holds before each line
 pub record IsAuditing (audit : Audit) : Type 0 where

@@ -52,7 +52,7 @@ pub record IsAudited {O : Type 0} (read : Reading) (took : O → O → List ℕ 
   pub part : WritesPrefix took before now read.input (audited shape)
   -- with some lines more, the lines seen before a fault are a log of Karma
   pub seen : end.status ≡ ReadFault → Seen read.input read.left (λ lines. (more : List (List ℕ)) × IsKarmaLog shape (lines ++ more))
-  pub unsent : end.status ≡ ReadFault → Adds took before now []
+  pub unsent : end.status ≡ ReadFault → now ≡ before
   pub accepts : end.status ≡ Done → (bytes : List ℕ) → read.input ≡ Some bytes → IsKarmaLog shape (lines_of bytes)
   pub accepted : IsWhole end.status → (bytes : List ℕ) → read.input ≡ Some bytes → IsKarmaLog shape (lines_of bytes) → end.status ≡ Done
   pub at_end : end.status ≡ Done → IsAtEnd read.left

@@ -47,4 +47,5 @@ replay_rules = record {
   takes = TracesLine;
   stops = λ old line end text. EndsAtLine old.number line end.status end.line text;
   over = λ old end text. IsOver end.status text;
+  quiet = ⊥;
 }

@@ -2,8 +2,10 @@
 pub mod Views
 -- what of the rule stays where one seat changes, or one comes
 pub mod Rests
--- the steps that make, split and join passes keep the rule
+-- the steps that make and split passes keep the rule
 pub mod PassSteps
+-- the steps that join passes, or tell one what another has seen, keep the rule
+pub mod JoinSteps
 -- the steps of a call keep the rule
 pub mod TurnSteps
 -- the four steps of a call are one call, and a new cell keeps the rule

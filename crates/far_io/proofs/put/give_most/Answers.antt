@@ -15,6 +15,7 @@ loop-done-preserved g c =
     record {
       adds = adds_equal g.O.Sink.took _ _ _ _ (piece_done bytes c.loop-done.done c.in-Ok.count) (adds_more g.O.Sink.took _ _ _ _ _ all.adds got.bytes);
       within = omega (arith, got.bound.most, length-take (length bytes - c.loop-done.done) (drop c.loop-done.done bytes), length-drop c.loop-done.done bytes);
+      still = λ none. absurd (omega (arith, ap (λ (b : List ℕ). length b) none));
       faults = follows_on _ _ _ all.faults got.cause.follows;
     }
 

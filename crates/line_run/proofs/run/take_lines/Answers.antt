@@ -7,11 +7,13 @@ use Rattle.run_end.specs.declared.why.Why.TheVariants.{ReadFault}
 use Rattle.line_run.specs.LineRules.{TakesLine, BreaksWithinLine, StopsAtLine}
 use Rattle.line_run.specs.Runs.{reading}
 use Rattle.line_run.proofs.SoFar.{starts, after_pass, comes_to_stop, comes_to_stop_unsent, comes_to_over, comes_to_fault, breaks_before, breaks_within, goes_on, next_line, long_line}
+use Rattle.line_run.proofs.Writes.{unmoved}
 use Rattle.line_run.proofs.run.take_lines.Goals as goal
 
 pub lines-init : goal.lines-init
 lines-init g c = record {
   so_far = starts g.T.LineTaker.rules g.B.Sink.took c.args.out.now _ c.args.taker.now c.args.line.now.ended c.args.line.now.ahead c.requires.fresh;
+  quiet = λ quiet empty. refl;
   holds = c.requires.holds;
   limit = c.requires.limit;
   agrees = λ ended. absurd (cc (c.requires.going));
@@ -92,6 +94,7 @@ lines-preserved g c =
     let kept = c.in_ok-pass_on_before_wait.ensures.kept in
     record {
       so_far = goes_on g.T.LineTaker.rules g.B.Sink.took _ _ _ _ c.args.taker.now c.lines.taker _ so_far _ _ _ c.in-Ok.ensures.read taken.text c.take_line.new.self taken.takes c.take_line.new.sink c.in-Ok.ensures.read.going taken.adds;
+      quiet = λ quiet empty. c.in_ok-take_line.ensures.quiet quiet ∙ unmoved g.B.PassesOn.is_empty _ _ _ (c.lines.invariant.quiet quiet empty) empty c.in_ok-pass_on_before_wait.ensures.still;
       holds = c.in_ok-take_line.ensures.holds;
       limit = c.in-Ok.ensures.limit ∙ ap (λ (l : LineView). l.limit) kept ∙ c.lines.invariant.limit;
       agrees = c.in-Ok.ensures.agrees (subst (λ (line : LineView). AgreesOnEnd line (g.S.Source.left c.lines.source)) (sym kept) c.lines.invariant.agrees);

@@ -10,6 +10,7 @@ abbrev pub invariant-lines : goal.invariant-lines
 invariant-lines g l = record {
   so_far : SoFar g.T.LineTaker.rules g.B.Sink.took l.initial.out l.out (g.S.Source.left l.initial.source) (in_front l.line.ahead (g.S.Source.left l.source))
       l.initial.taker l.taker l.line.ended;
+  quiet : g.T.LineTaker.rules.quiet → g.B.PassesOn.is_empty l.initial.out → l.out ≡ l.initial.out;
   holds : g.T.LineTaker.holds l.taker;
   limit : l.line.limit ≡ MOST_LINE;
   agrees : AgreesOnEnd l.line (g.S.Source.left l.source);

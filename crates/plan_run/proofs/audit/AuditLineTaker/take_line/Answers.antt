@@ -1,4 +1,4 @@
-use Rattle.std.proofs.Common.{◌≡◌, ◌≢◌, ◌+◌, ◌<◌, ◌≤◌, ◌^◌, List, [], length, Some, sym, ◌∙◌, ap, subst, arith}
+use Rattle.std.proofs.Common.{◌≡◌, ◌≢◌, ◌+◌, ◌<◌, ◌≤◌, ◌^◌, List, [], length, Some, refl, sym, ◌∙◌, ap, subst, arith}
 use Rattle.std.specs.List.{All}
 use Rattle.far_io.proofs.Adds.{adds_nothing}
 use Rattle.far_io.proofs.Faults.{follows_itself}
@@ -43,6 +43,7 @@ returns-else-not-is_wanted g c =
             (ap (λ (a : Audit). a.book) c.go_on-in_default.ensures) (ap (λ (a : Audit). a.kind) c.go_on-in_default.ensures) number;
         adds = adds_nothing g.O.Sink.took c.args._sink.now;
       };
+      quiet = λ quiet. refl;
       holds = subst IsAuditing (sym c.go_on-in_default.ensures) (record {
         read = c.read_due.ensures.rows ∙ c.requires.holds.read;
         wanted = ap (λ (rows : List Row). length rows) c.is_wanted.ensures.rows ∙ c.requires.holds.wanted;

@@ -1,6 +1,6 @@
 use Rattle.std.proofs.Common.{rules, ◌≡◌, ap, sym, ◌∙◌, min, ◌||◌}
 use Rattle.turn_cell.specs.Passes.{pass_view, joined_pass}
-use Rattle.turn_cell.proofs.PassSteps.{joins, settles}
+use Rattle.turn_cell.proofs.JoinSteps.{joins, settles}
 use Rattle.turn_cell.proofs.Joining.{joined_seat, is_ready, sees_on, apart_on}
 use Rattle.turn_cell.proofs.cell.Pass+B.join.Goals as goal
 
