@@ -53,7 +53,7 @@ impl fmt::Display for LineFault {
         match self {
             LineFault::TooLong { limit } => write!(f, "it has more than {limit} bytes"),
             LineFault::WordCount { wanted, found } => {
-                write!(f, "it has {found} words and should have {wanted}")
+                write!(f, "words wanted: {wanted}, found: {found}")
             }
             LineFault::NoDecimal { word } => write!(f, "word {word} is no decimal"),
             LineFault::AboveLimit { word, limit } => write!(f, "word {word} is above {limit}"),
@@ -128,7 +128,7 @@ impl fmt::Display for WordsFault {
             WordsFault::NoCommand => f.write_str("there is no command"),
             WordsFault::UnknownCommand => f.write_str("there is no such command"),
             WordsFault::WordCount { wanted, found } => {
-                write!(f, "there are {found} words and should be {wanted}")
+                write!(f, "words wanted: {wanted}, found: {found}")
             }
             WordsFault::NoDecimal { word } => write!(f, "word {word} is no decimal"),
             WordsFault::Limit { limit } => write!(f, "{limit}"),

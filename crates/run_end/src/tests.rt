@@ -52,7 +52,7 @@ fn whys_in_words(rt: HostRuntime) -> Result<(), Fail> {
                 },
             },
             2,
-            "bad words: there are 4 words and should be 5",
+            "bad words: words wanted: 5, found: 4",
         ),
         (
             Why::BadLine {

@@ -1,16 +1,31 @@
-//! Which word or limit is told where words are bad.
+//! Which word or limit is told where words are bad, and which line and what is wrong with it where a line is.
 
-use crate::read_words;
+use crate::{read_words, run_told};
+use far_io::{MemSink, MemSource, Raw};
 use std::test::Fail;
+
+// Why a run over this input ended, for a person.
+fn why(rt: &HostRuntime, words: &str, input: &str) -> Result<String, Fail> {
+    let alloc = rt.alloc();
+    let mut list = Vec::new(alloc);
+    for word in words.split(' ') {
+        list.push(String::from_str(alloc, word)?)?;
+    }
+    let bytes = Raw::from_slice(alloc, input.as_bytes())?;
+    let mut source = MemSource::new(bytes, 4096, Vec::new(alloc));
+    let mut sink = MemSink::new(alloc, Vec::new(alloc));
+    let why = run_told(alloc, list.as_slice(), &mut source, &mut sink);
+    Ok(format!(in alloc; "{why}")?)
+}
 
 #[test]
 fn faults_of_words(rt: HostRuntime) -> Result<(), Fail> {
     let cases = [
         ("", "there is no such command"),
         ("Plan 3 2 1 5", "there is no such command"),
-        ("plan 3 2 1", "there are 4 words and should be 5"),
-        ("audit 3 2 1 5 6", "there are 6 words and should be 5"),
-        ("replay 1 4 4 0", "there are 5 words and should be 6"),
+        ("plan 3 2 1", "words wanted: 5, found: 4"),
+        ("audit 3 2 1 5 6", "words wanted: 5, found: 6"),
+        ("replay 1 4 4 0", "words wanted: 6, found: 5"),
         ("plan 03 2 1 5", "word 2 is no decimal"),
         ("plan 3 2 1 +5", "word 5 is no decimal"),
         ("replay 1 4 4 0 064", "word 6 is no decimal"),
@@ -41,6 +56,47 @@ fn faults_of_words(rt: HostRuntime) -> Result<(), Fail> {
             return Err(Fail::from("the words are good"));
         };
         assert_eq!(rt; format!(in rt.alloc(); "{fault}")?.as_str(), want);
+    }
+    Ok(())
+}
+
+#[test]
+fn faults_of_demands_and_blocks(rt: HostRuntime) -> Result<(), Fail> {
+    let cases = [
+        (
+            "plan 3 2 1 5",
+            "3 2 1\n3 0\n",
+            "line 2 is bad: words wanted: 3, found: 2",
+        ),
+        ("plan 3 2 1 5", "3 2 x\n", "line 1 is bad: word 3 is no decimal"),
+        (
+            "plan 3 2 1 5",
+            "4398046511105 0 0\n",
+            "line 1 is bad: word 1 is above 4398046511104",
+        ),
+        (
+            "audit 3 2 1 5",
+            "quantum 0\nslices 3 2 1\n",
+            "line 2 is bad: a line `demand` is due here",
+        ),
+        (
+            "audit 3 2 1 5",
+            "quantum 0\ndemand 3 2 1\n",
+            "line 3 is bad: the input ends, and a line `slices` is missing",
+        ),
+        (
+            "audit 3 2 1 5",
+            "quantum 0\ndemand 3 2\n",
+            "line 2 is bad: words wanted: 4, found: 3",
+        ),
+        (
+            "audit 3 2 1 5",
+            "quantum 1\n",
+            "line 1 is not what the rule gives",
+        ),
+    ];
+    for (words, input, want) in cases {
+        assert_eq!(rt; why(&rt, words, input)?.as_str(), want);
     }
     Ok(())
 }
