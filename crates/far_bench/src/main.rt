@@ -1,11 +1,12 @@
-//! Measures a home with a file in it, a turn cell beside a mutex, and Karma's rule.
+//! Measures a home with a file in it, a turn cell beside a mutex, Karma's rule, images and a shelf in a folder.
 //!
-//! The words are `home SIZE BLOCKS PIECE CALLS`, `cell THREADS CALLS`, `mutex THREADS CALLS`, `quantum USERS QUANTA TIMES SEED` or `check`. The last makes
-//! a little of each, and prints what is the same on every machine: counts and results, and no time.
+//! The words are `home SIZE BLOCKS PIECE CALLS`, `cell THREADS CALLS`, `mutex THREADS CALLS`, `quantum USERS QUANTA TIMES SEED`, `image BYTES TIMES`,
+//! `dir FOLDER BLOCKS` or `check`. The last makes a little of each, and prints what is the same on every machine: counts and results, and no time.
 #![tactic(auto)]
 
 mod home;
 mod quantum;
+mod store;
 mod threads;
 mod words;
 mod worker;
@@ -14,11 +15,12 @@ use home::HomeWork;
 use quantum::QuantumWork;
 use std::env;
 use std::process::ExitCode;
-use std::rt::Clock;
+use std::rt::{Clock, Files};
 use std::sync::Wait;
 use std::thread::Threads;
+use store::ImageWork;
 use threads::{Kind, ThreadWork};
-use words::nanos_each;
+use words::{nanos_each, read_number};
 
 /// What is to be measured.
 #[derive(Clone, Copy)]
@@ -26,6 +28,8 @@ enum Work {
     Home(HomeWork),
     Threads(ThreadWork),
     Quantum(QuantumWork),
+    Image(ImageWork),
+    Dir(u32),
     Check,
 }
 
@@ -35,6 +39,8 @@ fn read_work(words: &[String]) -> Option<Work> {
         "cell" => Some(Work::Threads(threads::read_work(words, Kind::Cell)?)),
         "mutex" => Some(Work::Threads(threads::read_work(words, Kind::Mutex)?)),
         "quantum" => Some(Work::Quantum(quantum::read_work(words)?)),
+        "image" => Some(Work::Image(store::read_work(words)?)),
+        "dir" => Some(Work::Dir(read_number(words, 2, 1, 1_000_000)? as u32)),
         "check" => Some(Work::Check),
         _ => None,
     }
@@ -81,6 +87,39 @@ fn measure_quantum<R: Clock + AllocGlobal + Print>(
     Ok(ExitCode::from(0))
 }
 
+fn measure_images<R: Clock + AllocGlobal + Print>(
+    rt: &R,
+    work: ImageWork,
+) -> anyhow::Result<ExitCode> {
+    let times = store::measure_images(rt, work)?;
+    let write = nanos_each(times.writes, u64::from(work.times));
+    let read = nanos_each(times.reads, u64::from(work.times));
+    println!(rt;
+        "length {} good {} write {write} ns read {read} ns",
+        times.length, times.good
+    )?;
+    Ok(ExitCode::from(0))
+}
+
+fn measure_dir<R: Clock + AllocGlobal + Print + Files + Clone + Drop>(
+    rt: &R,
+    words: &[String],
+    blocks: u32,
+) -> anyhow::Result<ExitCode> {
+    let folder = match words.get(1) {
+        Some(word) => word.as_str(),
+        None => ".",
+    };
+    let times = store::measure_dir(rt, folder, blocks)?;
+    let put = nanos_each(times.puts, u64::from(blocks));
+    let get = nanos_each(times.gets, u64::from(blocks));
+    println!(rt;
+        "put {} found {} put {put} ns get {get} ns",
+        times.put, times.found
+    )?;
+    Ok(ExitCode::from(0))
+}
+
 // A little of each measurement, and what comes of it whatever the machine and the order of the threads.
 fn check<R: Clock + AllocGlobal + Print + Threads + Wait + Sync>(
     rt: &R,
@@ -111,6 +150,12 @@ fn check<R: Clock + AllocGlobal + Print + Threads + Wait + Sync>(
         times.small_given,
         times.greatest_given
     )?;
+    let images = store::measure_images(rt, store::little())?;
+    let blocks = store::measure_little(rt)?;
+    println!(rt;
+        "store: images of {} bytes, {} good; {} blocks put, {} found",
+        images.length, images.good, blocks.put, blocks.found
+    )?;
     Ok(ExitCode::from(0))
 }
 
@@ -123,10 +168,12 @@ fn main(rt: HostRuntime) -> anyhow::Result<ExitCode> {
         Some(Work::Home(work)) => measure_home(&rt, work),
         Some(Work::Threads(work)) => measure_threads(&rt, work),
         Some(Work::Quantum(work)) => measure_quantum(&rt, work),
+        Some(Work::Image(work)) => measure_images(&rt, work),
+        Some(Work::Dir(blocks)) => measure_dir(&rt, words.as_slice(), blocks),
         Some(Work::Check) => check(&rt),
         None => {
             eprintln!(rt;
-                "words: home SIZE BLOCKS PIECE CALLS, cell THREADS CALLS, mutex THREADS CALLS, quantum USERS QUANTA TIMES SEED, or check"
+                "words: home SIZE BLOCKS PIECE CALLS, cell THREADS CALLS, mutex THREADS CALLS, quantum USERS QUANTA TIMES SEED, image BYTES TIMES, dir FOLDER BLOCKS, or check"
             )?;
             Ok(ExitCode::from(2))
         }

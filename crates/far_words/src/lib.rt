@@ -1,4 +1,4 @@
-//! The words of the service: names, bytes, requests, replies and moves.
+//! The words of the service: names, bytes, requests, replies, moves and the stamps of parked blocks.
 //!
 //! Contracts see a name or a [`Blob`] as the list of its bytes. The rules that the words follow are in `docs/RULES.md`, and their
 //! texts in `docs/FORMATS.md`.
@@ -9,6 +9,7 @@ mod moves;
 mod part;
 mod path;
 mod request;
+mod stamp;
 mod text;
 
 pub use blob::Blob;
@@ -16,6 +17,7 @@ pub use moves::{Moves, PlacedRow};
 pub use part::Part;
 pub use path::Path;
 pub use request::{Kind, MOST_IN_FILE, MOST_IN_REQUEST, Outcome, Reply, Request};
+pub use stamp::{Found, ImageFault, Stamp};
 
 #[cfg(test)]
 mod tests;

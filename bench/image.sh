@@ -1,0 +1,48 @@
+#!/usr/bin/env bash
+# Measures what a store costs: images written with their digests and images read, bytes a second beside sha256sum on as many bytes; and puts and gets of
+# 64 KiB a second in a folder, beside a dd for each such file and beside one dd of as many bytes. Ratios hold within one run. image.sh [IMAGES [BLOCKS]]
+set -euo pipefail
+here=$(cd "$(dirname "${BASH_SOURCE[0]}")" && pwd)
+images=${1:-4000}
+blocks=${2:-1000}
+size=65536
+. "$here/built.sh"
+. "$here/seconds.sh"
+use_far_bench
+work=$(mktemp -d)
+trap 'rm -rf "$work"' EXIT
+echo "processors $(nproc), load $(cut -d' ' -f1-3 /proc/loadavg)"
+
+# field NAME LINE: the number after the last place of a name
+field() { awk -v name="$1" '{ for (i = 1; i < NF; i++) if ($i == name) n = $(i + 1) } END { print n }' <<< "$2"; }
+
+# in MB/s or calls a second, where each call took so many nanoseconds
+head -c $((images * size)) /dev/zero | tr '\0' '\7' > "$work/bytes"
+line=$("$program" image "$size" "$images")
+if [ "$(field length "$line")" != $((size + 53)) ] || [ "$(field good "$line")" != "$images" ]; then
+  echo "images of $size bytes: $line" >&2
+  exit 1
+fi
+digest() { sha256sum "$work/bytes" > /dev/null; }
+awk -v w="$(field write "$line")" -v r="$(field read "$line")" -v s="$(seconds digest)" -v size="$size" -v n="$images" 'BEGIN {
+  each = s * 1e9 / n
+  printf "images: %.0f MB/s written, %.0f MB/s read; sha256sum %.0f MB/s; ", size * 1e3 / w, size * 1e3 / r, size * 1e3 / each
+  printf "a write takes %.2f times its time, a read %.2f times\n", w / each, r / each }'
+
+head -c "$size" "$work/bytes" > "$work/block"
+head -c $((blocks * size)) "$work/bytes" > "$work/all"
+line=$("$program" dir "$work/store" "$blocks")
+if [ "$(field found "$line")" != "$blocks" ]; then
+  echo "blocks in a folder: $line" >&2
+  exit 1
+fi
+mkdir "$work/files"
+write_files() { for ((k = 0; k < blocks; k++)); do dd if="$work/block" of="$work/files/$k" bs="$size" count=1 status=none; done; }
+read_files() { for ((k = 0; k < blocks; k++)); do dd if="$work/files/$k" of=/dev/null bs="$size" count=1 status=none; done; }
+write_one() { dd if="$work/all" of="$work/one" bs="$size" status=none; }
+read_one() { dd if="$work/one" of=/dev/null bs="$size" status=none; }
+awk -v p="${line##* put }" -v g="$(field get "$line")" -v n="$blocks" \
+  -v wf="$(seconds write_files)" -v rf="$(seconds read_files)" -v wo="$(seconds write_one)" -v ro="$(seconds read_one)" 'BEGIN {
+  split(p, put, " ")
+  printf "a folder: %.0f puts/s, %.0f gets/s; a dd for each file %.0f and %.0f; ", 1e9 / put[1], 1e9 / g, n / wf, n / rf
+  printf "one dd of as many bytes %.0f and %.0f\n", n / wo, n / ro }'
