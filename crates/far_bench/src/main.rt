@@ -1,9 +1,12 @@
-//! Measures a home with a file in it, a turn cell beside a mutex, Karma's rule, images and a shelf in a folder.
+//! Measures a home with a file in it, a turn cell beside a mutex, Karma's rule, images and a shelf in a folder, and frames.
 //!
 //! The words are `home SIZE BLOCKS PIECE CALLS`, `cell THREADS CALLS`, `mutex THREADS CALLS`, `quantum USERS QUANTA TIMES SEED`, `image BYTES TIMES`,
-//! `dir FOLDER BLOCKS` or `check`. The last makes a little of each, and prints what is the same on every machine: counts and results, and no time.
+//! `dir FOLDER BLOCKS`, `frames WHAT SIZE CALLS` or `check`. The last makes a little of each, and prints what is the same on every machine: counts and
+//! results, and no time. `decode` answers lines of its input, each a frame, for a check by another program.
 #![tactic(auto)]
 
+mod frame_lines;
+mod frames;
 mod home;
 mod quantum;
 mod store;
@@ -11,6 +14,8 @@ mod threads;
 mod words;
 mod worker;
 
+use far_io::ReadSource;
+use frames::FrameWork;
 use home::HomeWork;
 use quantum::QuantumWork;
 use std::env;
@@ -30,6 +35,8 @@ enum Work {
     Quantum(QuantumWork),
     Image(ImageWork),
     Dir(u32),
+    Frames(FrameWork),
+    Decode,
     Check,
 }
 
@@ -41,6 +48,8 @@ fn read_work(words: &[String]) -> Option<Work> {
         "quantum" => Some(Work::Quantum(quantum::read_work(words)?)),
         "image" => Some(Work::Image(store::read_work(words)?)),
         "dir" => Some(Work::Dir(read_number(words, 2, 1, 1_000_000)? as u32)),
+        "frames" => Some(Work::Frames(frames::read_work(words)?)),
+        "decode" => Some(Work::Decode),
         "check" => Some(Work::Check),
         _ => None,
     }
@@ -120,6 +129,38 @@ fn measure_dir<R: Clock + AllocGlobal + Print + Files + Clone + Drop>(
     Ok(ExitCode::from(0))
 }
 
+fn measure_frames<R: Clock + AllocGlobal + Print>(
+    rt: &R,
+    work: FrameWork,
+) -> anyhow::Result<ExitCode> {
+    let Some(times) = frames::measure(rt, work)? else {
+        println!(rt; "the frame isn't what was encoded")?;
+        return Ok(ExitCode::from(1));
+    };
+    let calls = u64::from(work.calls);
+    println!(rt;
+        "bytes {} encode {} ns decode {} ns copy {} ns",
+        times.bytes,
+        nanos_each(times.encodes, calls),
+        nanos_each(times.decodes, calls),
+        nanos_each(times.copies, calls)
+    )?;
+    Ok(ExitCode::from(0))
+}
+
+// The bytes of a frame of each kind that is measured.
+fn check_frames<R: Clock + AllocGlobal + Print>(rt: &R) -> anyhow::Result<()> {
+    print!(rt; "frames:")?;
+    for index in 0..4u32 {
+        match frames::measure(rt, frames::little(index))? {
+            Some(times) => print!(rt; " {}", times.bytes)?,
+            None => print!(rt; " none")?,
+        }
+    }
+    println!(rt; " bytes")?;
+    Ok(())
+}
+
 // A little of each measurement, and what comes of it whatever the machine and the order of the threads.
 fn check<R: Clock + AllocGlobal + Print + Threads + Wait + Sync>(
     rt: &R,
@@ -156,6 +197,13 @@ fn check<R: Clock + AllocGlobal + Print + Threads + Wait + Sync>(
         "store: images of {} bytes, {} good; {} blocks put, {} found",
         images.length, images.good, blocks.put, blocks.found
     )?;
+    check_frames(rt)?;
+    Ok(ExitCode::from(0))
+}
+
+fn answer_lines(rt: &HostRuntime) -> anyhow::Result<ExitCode> {
+    let mut source = ReadSource::new(rt.stdin());
+    frame_lines::answer_lines(rt, &mut source)?;
     Ok(ExitCode::from(0))
 }
 
@@ -170,10 +218,12 @@ fn main(rt: HostRuntime) -> anyhow::Result<ExitCode> {
         Some(Work::Quantum(work)) => measure_quantum(&rt, work),
         Some(Work::Image(work)) => measure_images(&rt, work),
         Some(Work::Dir(blocks)) => measure_dir(&rt, words.as_slice(), blocks),
+        Some(Work::Frames(work)) => measure_frames(&rt, work),
+        Some(Work::Decode) => answer_lines(&rt),
         Some(Work::Check) => check(&rt),
         None => {
             eprintln!(rt;
-                "words: home SIZE BLOCKS PIECE CALLS, cell THREADS CALLS, mutex THREADS CALLS, quantum USERS QUANTA TIMES SEED, image BYTES TIMES, dir FOLDER BLOCKS, or check"
+                "words: home SIZE BLOCKS PIECE CALLS, cell THREADS CALLS, mutex THREADS CALLS, quantum USERS QUANTA TIMES SEED, image BYTES TIMES, dir FOLDER BLOCKS, frames WHAT SIZE CALLS, decode, or check"
             )?;
             Ok(ExitCode::from(2))
         }

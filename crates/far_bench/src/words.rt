@@ -17,6 +17,11 @@ pub fn read_number(words: &[String], index: usize, least: u64, most: u64) -> Opt
     Some(number)
 }
 
+/// The number that a word is.
+pub fn number_of(word: &[u8]) -> Option<u64> {
+    parse_decimal(word)
+}
+
 /// How many nanoseconds each of so many calls took.
 pub fn nanos_each(time: Duration, calls: u64) -> u128 {
     time.as_nanos() / u128::from(calls.max(1))

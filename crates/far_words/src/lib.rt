@@ -5,6 +5,7 @@
 #![tactic(auto)]
 
 mod blob;
+pub mod frames;
 mod moves;
 mod part;
 mod path;

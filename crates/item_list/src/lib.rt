@@ -70,6 +70,13 @@ impl<T: Drop> ItemList<T> {
         }
     }
 
+    /// Takes memory for so many further items, so that adding them takes none one by one. The items stand as they were.
+    pub fn reserve(&mut self, additional: usize) -> Result<(), AllocError>
+        ensures { self.new ≡ self.old }
+    {
+        self.vec.reserve(additional)
+    }
+
     /// Takes all items out. The room for them stays.
     pub fn clear(&mut self)
         ensures { self.new ≡ [] }

@@ -7,6 +7,7 @@ use std::test::Fail;
 fn a_list_grows_and_is_cut(rt: HostRuntime) -> Result<(), Fail> {
     let alloc = rt.alloc();
     let mut list = ItemList::from_slice(alloc, b"ab")?;
+    list.reserve(3)?;
     list.push(b'c')?;
     list.extend_from_slice(b"de")?;
     assert_eq!(rt; list.items(), b"abcde".as_slice());

@@ -68,7 +68,11 @@ fn faults_of_demands_and_blocks(rt: HostRuntime) -> Result<(), Fail> {
             "3 2 1\n3 0\n",
             "line 2 is bad: words wanted: 3, found: 2",
         ),
-        ("plan 3 2 1 5", "3 2 x\n", "line 1 is bad: word 3 is no decimal"),
+        (
+            "plan 3 2 1 5",
+            "3 2 x\n",
+            "line 1 is bad: word 3 is no decimal",
+        ),
         (
             "plan 3 2 1 5",
             "4398046511105 0 0\n",

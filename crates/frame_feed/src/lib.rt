@@ -1,0 +1,10 @@
+//! Frames of a source, the same for every cutting of it.
+#![tactic(auto)]
+
+mod feed;
+mod look;
+
+pub use feed::{Feed, FeedEnd, next_frame};
+
+#[cfg(test)]
+mod tests;

@@ -1,0 +1,50 @@
+use Rattle.std.proofs.Common.{◌≡◌, ◌≤◌, ℕ, List, drop, length, arith}
+use Rattle.std.proofs.lemmas.List.{take_rest}
+use Rattle.frame_fields.proofs.FrameLaws.{whole_frame}
+use Rattle.req_frames.specs.Requests.{request_frame, request_fields, requests}
+use Rattle.req_frames.proofs.Values.{request_one}
+use Rattle.req_frames.proofs.Decoded.{decoded_end, bad_end, only_one, only_none, none_bad, end_below}
+use Rattle.req_frames.proofs.decode.decode_request.Goals as goal
+
+pub end_of-requires-clause-within : goal.end_of-requires-clause-within
+end_of-requires-clause-within c = end_below requests c.args.frame.now c.in-Err.end
+    (rw (take_rest c.args.frame.now 4) at c.in-Err.ensures)
+
+pub returns-in-Ok-clause-decoded : goal.returns-in-Ok-clause-decoded
+unfolding request_frame
+returns-in-Ok-clause-decoded c =
+    whole_frame requests c.args.frame.now (request_fields c.in-Ok.request) (λ i. omega (arith, c.type_inv.frame i))
+    c.requires (rw (take_rest c.args.frame.now 4) at c.in-Ok.ensures)
+
+pub returns-in-Ok-clause-only : goal.returns-in-Ok-clause-only
+unfolding request_frame
+returns-in-Ok-clause-only c = λ x fits same.
+    let read = whole_frame requests c.args.frame.now (request_fields c.in-Ok.request)
+    (λ i. omega (arith, c.type_inv.frame i)) c.requires (rw (take_rest c.args.frame.now 4) at c.in-Ok.ensures) in
+    only_one requests c.args.frame.now request_fields request_one c.in-Ok.request x read fits same
+
+pub returns-in-Ok-clause-bad : goal.returns-in-Ok-clause-bad
+returns-in-Ok-clause-bad c = λ place bad.
+    let read = whole_frame requests c.args.frame.now (request_fields c.in-Ok.request)
+    (λ i. omega (arith, c.type_inv.frame i)) c.requires (rw (take_rest c.args.frame.now 4) at c.in-Ok.ensures) in
+    none_bad requests c.args.frame.now request_fields c.in-Ok.request place c.requires read bad
+
+pub returns-in-Err-clause-decoded : goal.returns-in-Err-clause-decoded
+returns-in-Err-clause-decoded c =
+    decoded_end requests c.args.frame.now c.in-Err.end c.end_of.result (λ i. omega (arith, c.type_inv.frame i))
+    c.requires (rw (take_rest c.args.frame.now 4) at c.in-Err.ensures) c.end_of.ensures
+
+pub returns-in-Err-clause-only : goal.returns-in-Err-clause-only
+unfolding request_frame
+returns-in-Err-clause-only c = λ x fits same.
+    let told = decoded_end requests c.args.frame.now c.in-Err.end c.end_of.result
+    (λ i. omega (arith, c.type_inv.frame i)) c.requires (rw (take_rest c.args.frame.now 4) at c.in-Err.ensures)
+    c.end_of.ensures in
+    only_none requests c.args.frame.now request_fields c.end_of.result x c.requires told fits same
+
+pub returns-in-Err-clause-bad : goal.returns-in-Err-clause-bad
+returns-in-Err-clause-bad c = λ place bad.
+    let told = decoded_end requests c.args.frame.now c.in-Err.end c.end_of.result
+    (λ i. omega (arith, c.type_inv.frame i)) c.requires (rw (take_rest c.args.frame.now 4) at c.in-Err.ensures)
+    c.end_of.ensures in
+    bad_end requests c.args.frame.now c.end_of.result place c.requires told bad

@@ -1,0 +1,6 @@
+-- the table of requests
+pub mod Requests
+-- the table of replies
+pub mod Replies
+-- what decoding answers
+pub mod Answers
