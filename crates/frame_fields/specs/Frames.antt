@@ -18,6 +18,10 @@ pub record FitsFrame (table : Table) (fields : List Field) : Type 0 where
   pub fits : Fits (tagged table) fields
   pub short : AreShort fields
 
+-- what stood in front stays there
+abbrev pub Extends : List ℕ → List ℕ → Type 0
+Extends old new = (more : List ℕ) × (new ≡ old ++ more)
+
 -- these fields of the layout were added at the end
 abbrev pub IsPut : Layout → List Field → List ℕ → List ℕ → Type 0
 IsPut layout fields old new = (new ≡ old ++ spelled fields) × Fits layout fields

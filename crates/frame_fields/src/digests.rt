@@ -5,6 +5,7 @@ ghost use Rattle.frame_fields.specs.Fields.{spelling, Digest, ADigest, IsValue};
 ghost use Rattle.frame_fields.specs.Layouts.{Stop};
 ghost use Rattle.frame_fields.specs.Parts.{a_digest};
 ghost use Rattle.frame_fields.specs.Reads.{Finds};
+ghost use Rattle.frame_fields.specs.Frames.{Extends};
 
 use crate::ends::ReadEnd;
 use crate::framed::Framed;
@@ -42,6 +43,7 @@ impl Framed for [u8; 32] {
 pub fn put_digest(out: &mut Blob, digest: &[u8; 32]) -> Result<(), AllocError>
     ensures put { OnOk result (out.new ≡ out.old ++ spelling (Digest digest.now)) }
     ensures value { IsValue ADigest (Digest digest.now) }
+    ensures kept { Extends out.old out.new }
 {
     out.extend_from_slice(digest.as_slice())
 }

@@ -6,6 +6,7 @@ ghost use Rattle.frame_fields.specs.Fields.{spelling, Byte, Text, After, AByte, 
 ghost use Rattle.frame_fields.specs.Layouts.{Stop};
 ghost use Rattle.frame_fields.specs.Parts.{a_path, a_part, part_fields, an_after, a_kind, is_kind, kind_byte};
 ghost use Rattle.frame_fields.specs.Reads.{Finds};
+ghost use Rattle.frame_fields.specs.Frames.{Extends};
 
 use crate::ends::ReadEnd;
 use crate::framed::Framed;
@@ -142,6 +143,7 @@ fn byte_of(kind: Kind) -> u8
 pub fn put_path(out: &mut Blob, path: &Path) -> Result<(), AllocError>
     ensures put { OnOk result (out.new ≡ out.old ++ spelling (Text path.now)) }
     ensures value { IsValue (AText is_path) (Text path.now) }
+    ensures kept { Extends out.old out.new }
 {
     put_text(out, path.bytes())
 }
@@ -150,6 +152,7 @@ pub fn put_path(out: &mut Blob, path: &Path) -> Result<(), AllocError>
 pub fn put_part(out: &mut Blob, part: &Part) -> Result<(), AllocError>
     ensures put { OnOk result (out.new ≡ out.old ++ spelling (Text part.now)) }
     ensures value { IsValue (AText is_part) (Text part.now) }
+    ensures kept { Extends out.old out.new }
 {
     put_text(out, part.bytes())
 }
@@ -158,6 +161,7 @@ pub fn put_part(out: &mut Blob, part: &Part) -> Result<(), AllocError>
 pub fn put_kind(out: &mut Blob, kind: Kind) -> Result<(), AllocError>
     ensures put { OnOk result (out.new ≡ out.old ++ spelling (Byte (kind_byte kind))) }
     ensures value { IsValue (AByte is_kind) (Byte (kind_byte kind)) }
+    ensures kept { Extends out.old out.new }
 {
     put_byte(out, byte_of(kind))
 }
@@ -167,6 +171,7 @@ pub fn put_kind(out: &mut Blob, kind: Kind) -> Result<(), AllocError>
 pub fn put_after(out: &mut Blob, after: &Option<Part>) -> Result<(), AllocError>
     ensures put { OnOk result (out.new ≡ out.old ++ spelling (After after.now)) }
     ensures value { IsValue AnAfter (After after.now) }
+    ensures kept { Extends out.old out.new }
 {
     match after {
         Some(part) => put_text(out, part.bytes()),

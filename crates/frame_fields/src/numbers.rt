@@ -5,6 +5,7 @@ ghost use Rattle.frame_fields.specs.Fields.{spelling, spelled, AByte, AWord, ALo
 ghost use Rattle.frame_fields.specs.Layouts.{Stop, Fits};
 ghost use Rattle.frame_fields.specs.Parts.{a_byte, a_word, a_long, optional_long, optional_fields};
 ghost use Rattle.frame_fields.specs.Reads.{Finds};
+ghost use Rattle.frame_fields.specs.Frames.{Extends};
 
 use crate::ends::ReadEnd;
 use crate::framed::Framed;
@@ -110,7 +111,8 @@ impl Framed for Option<u64> {
 /// Adds a number of one byte at the end.
 #[tactic(auto, unfolding(crate::specs::Fields::spelling))]
 pub fn put_byte(out: &mut Blob, number: u8) -> Result<(), AllocError>
-    ensures { OnOk result (out.new ≡ out.old ++ spelling (Byte number)) }
+    ensures put { OnOk result (out.new ≡ out.old ++ spelling (Byte number)) }
+    ensures kept { Extends out.old out.new }
 {
     out.push(number)
 }
@@ -118,7 +120,8 @@ pub fn put_byte(out: &mut Blob, number: u8) -> Result<(), AllocError>
 /// Adds a number of four bytes at the end.
 #[tactic(auto, unfolding(crate::specs::Fields::spelling))]
 pub fn put_word(out: &mut Blob, number: u32) -> Result<(), AllocError>
-    ensures { OnOk result (out.new ≡ out.old ++ spelling (Word number)) }
+    ensures put { OnOk result (out.new ≡ out.old ++ spelling (Word number)) }
+    ensures kept { Extends out.old out.new }
 {
     out.extend_from_slice(&number.to_be_bytes())
 }
@@ -126,7 +129,8 @@ pub fn put_word(out: &mut Blob, number: u32) -> Result<(), AllocError>
 /// Adds a number of eight bytes at the end.
 #[tactic(auto, unfolding(crate::specs::Fields::spelling))]
 pub fn put_long(out: &mut Blob, number: u64) -> Result<(), AllocError>
-    ensures { OnOk result (out.new ≡ out.old ++ spelling (Long number)) }
+    ensures put { OnOk result (out.new ≡ out.old ++ spelling (Long number)) }
+    ensures kept { Extends out.old out.new }
 {
     out.extend_from_slice(&number.to_be_bytes())
 }
@@ -135,6 +139,7 @@ pub fn put_long(out: &mut Blob, number: u64) -> Result<(), AllocError>
 pub fn put_optional(out: &mut Blob, number: Option<u64>) -> Result<(), AllocError>
     ensures put { OnOk result (out.new ≡ out.old ++ spelled (optional_fields number)) }
     ensures fits { Fits optional_long (optional_fields number) }
+    ensures kept { Extends out.old out.new }
 {
     match number {
         None => put_byte(out, 0),

@@ -6,7 +6,7 @@ ghost use Rattle.frame_fields.specs.Layouts.{Fits, times};
 ghost use Rattle.frame_fields.specs.Parts.{rows_of, fields_of_rows, place_fields};
 ghost use Rattle.frame_fields.specs.Parts as parts;
 ghost use Rattle.frame_fields.specs.Reads.{Reads};
-ghost use Rattle.frame_fields.specs.Frames.{IsPut};
+ghost use Rattle.frame_fields.specs.Frames.{Extends, IsPut};
 
 use crate::ends::ReadEnd;
 use crate::framed::Framed;
@@ -28,7 +28,8 @@ pub trait Row: Framed {
     /// Adds the fields at the end.
     fn put(&self, out: &mut Blob) -> Result<(), AllocError>
         ensures put { OnOk result (out.new ≡ out.old ++ spelled (Self.fields self.now)) }
-        ensures fits { OnOk result (Fits Self.layout (Self.fields self.now)) };
+        ensures fits { OnOk result (Fits Self.layout (Self.fields self.now)) }
+        ensures kept { Extends out.old out.new };
 }
 
 /// So many rows, and the bytes after them.
@@ -62,6 +63,7 @@ impl<T: Framed> Framed for Rows<T> {
 fn put_rows<T: Row>(out: &mut Blob, rows: &[T]) -> Result<(), AllocError>
     ensures put { OnOk result (out.new ≡ out.old ++ spelled (fields_of_rows T.fields rows.now)) }
     ensures fit { OnOk result (Fits (times (length rows.now) T.layout) (fields_of_rows T.fields rows.now)) }
+    ensures kept { Extends out.old out.new }
 {
     for row in rows {
         row.put(out)?;
@@ -72,8 +74,9 @@ fn put_rows<T: Row>(out: &mut Blob, rows: &[T]) -> Result<(), AllocError>
 /// Adds rows behind their count at the end.
 pub fn put_counted<T: Row>(out: &mut Blob, rows: &[T]) -> Result<(), AllocError>
     requires { length rows.now < 2 ^ 32 }
-    ensures { OnOk result
+    ensures put { OnOk result
         (IsPut (rows_of T.layout) (Word (length rows.now) ∷ fields_of_rows T.fields rows.now) out.old out.new) }
+    ensures kept { Extends out.old out.new }
 {
     put_word(out, rows.len() as u32)?;
     put_rows(out, rows)

@@ -5,6 +5,7 @@ ghost use Rattle.frame_fields.specs.Fields.{spelled};
 ghost use Rattle.frame_fields.specs.Layouts.{Fits};
 ghost use Rattle.frame_fields.specs.Stamps;
 ghost use Rattle.frame_fields.specs.Stamps.{stamp_fields, fault_fields, found_fields};
+ghost use Rattle.frame_fields.specs.Frames.{Extends};
 
 use crate::digests::put_digest;
 use crate::ends::ReadEnd;
@@ -105,6 +106,7 @@ impl Framed for Found {
 pub fn put_stamp(out: &mut Blob, stamp: &Stamp) -> Result<(), AllocError>
     ensures put { OnOk result (out.new ≡ out.old ++ spelled (stamp_fields stamp.now)) }
     ensures fits { OnOk result (Fits Stamps.stamp (stamp_fields stamp.now)) }
+    ensures kept { Extends out.old out.new }
 {
     put_word(out, stamp.user)?;
     put_long(out, stamp.block)?;
@@ -116,6 +118,7 @@ pub fn put_stamp(out: &mut Blob, stamp: &Stamp) -> Result<(), AllocError>
 fn put_fault(out: &mut Blob, fault: &ImageFault) -> Result<(), AllocError>
     ensures put { OnOk result (out.new ≡ out.old ++ spelled (fault_fields fault.now)) }
     ensures fits { OnOk result (Fits Stamps.fault (fault_fields fault.now)) }
+    ensures kept { Extends out.old out.new }
 {
     match fault {
         ImageFault::Short { have } => {
@@ -144,6 +147,7 @@ fn put_fault(out: &mut Blob, fault: &ImageFault) -> Result<(), AllocError>
 pub fn put_found(out: &mut Blob, found: &Found) -> Result<(), AllocError>
     ensures put { OnOk result (out.new ≡ out.old ++ spelled (found_fields found.now)) }
     ensures fits { OnOk result (Fits Stamps.found (found_fields found.now)) }
+    ensures kept { Extends out.old out.new }
 {
     match found {
         Found::Absent => put_byte(out, 0),

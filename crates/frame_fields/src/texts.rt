@@ -5,6 +5,7 @@ ghost use Rattle.frame_fields.specs.Fields.{spelling, Text, AText};
 ghost use Rattle.frame_fields.specs.Layouts.{Stop};
 ghost use Rattle.frame_fields.specs.Parts.{a_blob};
 ghost use Rattle.frame_fields.specs.Reads.{Finds};
+ghost use Rattle.frame_fields.specs.Frames.{Extends};
 
 use crate::ends::ReadEnd;
 use crate::framed::Framed;
@@ -46,7 +47,8 @@ impl Framed for Blob {
 #[tactic(auto, unfolding(crate::specs::Fields::spelling))]
 pub fn put_text(out: &mut Blob, bytes: &[u8]) -> Result<(), AllocError>
     requires { length bytes.now < 2 ^ 32 }
-    ensures { OnOk result (out.new ≡ out.old ++ spelling (Text bytes.now)) }
+    ensures put { OnOk result (out.new ≡ out.old ++ spelling (Text bytes.now)) }
+    ensures kept { Extends out.old out.new }
 {
     out.extend_from_slice(&(bytes.len() as u32).to_be_bytes())?;
     out.extend_from_slice(bytes)

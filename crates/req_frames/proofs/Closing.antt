@@ -1,7 +1,7 @@
 -- A frame's length, written over the bytes that stand for it.
-use Rattle.std.proofs.Common.{◌≡◌, ℕ, ◌+◌, ◌-◌, ◌≤◌, List, [], ◌++◌, length, take, drop, refl, sym, ap, ◌∙◌, append_assoc, append-nil, arith}
+use Rattle.std.proofs.Common.{◌≡◌, ℕ, ◌+◌, ◌-◌, ◌≤◌, List, ◌++◌, length, take, drop, sym, ap, ◌∙◌, append_assoc, append-nil, arith}
 use Rattle.std.proofs.lemmas.List.{take_at, drop_at, take_all, drop_all, length-append, length-take, length-drop, drop-drop}
-use Rattle.frame_fields.specs.Fields.{Field, Word, Text, spelling, spelled}
+use Rattle.frame_fields.specs.Fields.{Field, Word, spelling, spelled}
 use Rattle.frame_fields.specs.Layouts.{Table, tagged}
 use Rattle.frame_fields.specs.Frames.{frame_of, AreShort, FitsFrame, IsPut}
 use Rattle.frame_fields.proofs.FieldLaws.{text_spelled, length_word}

@@ -1,5 +1,5 @@
 -- What decoding answers, from what reading the body answers.
-use Rattle.std.proofs.Common.{◌≡◌, ℕ, ◌+◌, ◌≤◌, List, drop, length, Result, Ok, Err, refl, sym, ap, subst, ◌∙◌, arith}
+use Rattle.std.proofs.Common.{◌≡◌, ℕ, ◌≤◌, List, drop, length, sym, ◌∙◌}
 use Rattle.frame_fields.specs.declared.ends.ReadEnd.{ReadEnd}
 use Rattle.frame_fields.specs.declared.ends.ReadEnd.TheVariants as reads
 use Rattle.frame_fields.specs.Fields.{Field}

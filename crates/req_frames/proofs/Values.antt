@@ -2,7 +2,7 @@
 use Rattle.std.proofs.Common.{◌≡◌, ℕ, ◌-◌, eqb, cond, drop, Option, Some, None, List, [], ◌∷◌, refl, ap, sym, ◌∙◌}
 use Rattle.frame_fields.specs.Fields.{Field, Byte, Word, Long, Digest, Text, After}
 use Rattle.frame_fields.specs.Parts.{kind_byte, optional_fields, part_fields, place_fields, fields_of_rows}
-use Rattle.frame_fields.specs.Stamps.{stamp_fields, fault_fields, found_fields}
+use Rattle.frame_fields.specs.Stamps.{fault_fields, found_fields}
 use Rattle.far_words.specs.declared.frames.Kind.{Kind}
 use Rattle.far_words.specs.declared.frames.Kind.TheVariants.{Dir, File, Queue, Table}
 use Rattle.far_words.specs.declared.frames.Place.{Place}

@@ -2,7 +2,7 @@
 
 ghost use Rattle.std.specs.Prelude.{◌≡◌, ◌+◌, ◌-◌, ◌≤◌, ◌++◌, length, take, drop, OnOk};
 ghost use Rattle.frame_fields.specs.Fields.{Word, spelling};
-ghost use Rattle.frame_fields.specs.Frames.{AreShort};
+ghost use Rattle.frame_fields.specs.Frames.{AreShort, Extends};
 ghost use Rattle.req_frames.specs.Answers.{HasOneReading};
 ghost use Rattle.req_frames.specs.Requests.{request_frame, request_fields, IsRequest};
 ghost use Rattle.req_frames.specs.Replies.{reply_frame, reply_fields, IsReply};
@@ -25,10 +25,12 @@ fn close_frame(out: &mut Blob, at: usize)
     out.items_mut()[at..end].copy_from_slice(&len.to_be_bytes());
 }
 
-/// Adds the frame of a request at the end. At an `Err` a beginning of it may stand there.
+/// Adds the frame of a request at the end. At an `Err` a beginning of it may stand there, after what stood there before.
 pub fn append_request(out: &mut Blob, request: &Request) -> Result<(), AllocError>
     requires { AreShort (request_fields request.now) }
     ensures put { OnOk result (out.new ≡ out.old ++ request_frame request.now) }
+    // What stood in front stays there, also at an `Err`.
+    ensures kept { Extends out.old out.new }
     // So it is decoded to the same request again.
     ensures within { OnOk result (IsRequest request.now) }
 {
@@ -40,10 +42,12 @@ pub fn append_request(out: &mut Blob, request: &Request) -> Result<(), AllocErro
     Ok(())
 }
 
-/// Adds the frame of a reply at the end. At an `Err` a beginning of it may stand there.
+/// Adds the frame of a reply at the end. At an `Err` a beginning of it may stand there, after what stood there before.
 pub fn append_reply(out: &mut Blob, reply: &Reply) -> Result<(), AllocError>
     requires { AreShort (reply_fields reply.now) }
     ensures put { OnOk result (out.new ≡ out.old ++ reply_frame reply.now) }
+    // What stood in front stays there, also at an `Err`.
+    ensures kept { Extends out.old out.new }
     // So it is decoded to the same reply again.
     ensures within { OnOk result (IsReply reply.now) }
 {

@@ -6,7 +6,7 @@ ghost use Rattle.frame_fields.specs.Layouts.{Stop, both, tagged};
 ghost use Rattle.frame_fields.specs.Parts.{a_byte, a_word, a_long, a_blob, a_part, part_fields, rows_of, fields_of_rows, place, place_fields, optional_long, optional_fields};
 ghost use Rattle.frame_fields.specs.Stamps;
 ghost use Rattle.frame_fields.specs.Stamps.{stamp_fields, found_fields};
-ghost use Rattle.frame_fields.specs.Frames.{AreShort, IsPut};
+ghost use Rattle.frame_fields.specs.Frames.{AreShort, Extends, IsPut};
 ghost use Rattle.req_frames.specs.Replies.{reply_fields, replies};
 
 use far_words::frames::{Names, Places, Reply};
@@ -27,7 +27,8 @@ const ROOM_BESIDE: usize = 128;
 
 /// A kind and a number.
 fn put_number(out: &mut Blob, kind: u8, number: u64) -> Result<(), AllocError>
-    ensures { OnOk result (IsPut (a_byte (a_long Stop)) (Byte kind ∷ Long number ∷ []) out.old out.new) }
+    ensures put { OnOk result (IsPut (a_byte (a_long Stop)) (Byte kind ∷ Long number ∷ []) out.old out.new) }
+    ensures kept { Extends out.old out.new }
 {
     put_byte(out, kind)?;
     put_long(out, number)
@@ -41,8 +42,9 @@ fn put_numbers(
     second: u64,
     third: u64,
 ) -> Result<(), AllocError>
-    ensures { OnOk result (IsPut (a_byte (a_long (a_long (a_long Stop))))
+    ensures put { OnOk result (IsPut (a_byte (a_long (a_long (a_long Stop))))
         (Byte kind ∷ Long first ∷ Long second ∷ Long third ∷ []) out.old out.new) }
+    ensures kept { Extends out.old out.new }
 {
     put_byte(out, kind)?;
     put_long(out, first)?;
@@ -53,7 +55,8 @@ fn put_numbers(
 /// A kind and bytes.
 fn put_blob(out: &mut Blob, kind: u8, bytes: &Blob) -> Result<(), AllocError>
     requires { AreShort (Byte kind ∷ Text bytes.now ∷ []) }
-    ensures { OnOk result (IsPut (a_byte (a_blob Stop)) (Byte kind ∷ Text bytes.now ∷ []) out.old out.new) }
+    ensures put { OnOk result (IsPut (a_byte (a_blob Stop)) (Byte kind ∷ Text bytes.now ∷ []) out.old out.new) }
+    ensures kept { Extends out.old out.new }
 {
     put_byte(out, kind)?;
     put_text(out, bytes.items())
@@ -61,8 +64,9 @@ fn put_blob(out: &mut Blob, kind: u8, bytes: &Blob) -> Result<(), AllocError>
 
 fn put_names(out: &mut Blob, names: &Names) -> Result<(), AllocError>
     requires { AreShort (Byte 69 ∷ Word (length names.now) ∷ fields_of_rows part_fields names.now) }
-    ensures { OnOk result (IsPut (a_byte (rows_of (a_part Stop)))
+    ensures put { OnOk result (IsPut (a_byte (rows_of (a_part Stop)))
         (Byte 69 ∷ Word (length names.now) ∷ fields_of_rows part_fields names.now) out.old out.new) }
+    ensures kept { Extends out.old out.new }
 {
     put_byte(out, 69)?;
     put_counted(out, names.items())
@@ -70,16 +74,18 @@ fn put_names(out: &mut Blob, names: &Names) -> Result<(), AllocError>
 
 fn put_places(out: &mut Blob, places: &Places) -> Result<(), AllocError>
     requires { AreShort (Byte 70 ∷ Word (length places.now) ∷ fields_of_rows place_fields places.now) }
-    ensures { OnOk result (IsPut (a_byte (rows_of place))
+    ensures put { OnOk result (IsPut (a_byte (rows_of place))
         (Byte 70 ∷ Word (length places.now) ∷ fields_of_rows place_fields places.now) out.old out.new) }
+    ensures kept { Extends out.old out.new }
 {
     put_byte(out, 70)?;
     put_counted(out, places.items())
 }
 
 fn put_damaged(out: &mut Blob, kept: &Stamp, found: &Found) -> Result<(), AllocError>
-    ensures { OnOk result (IsPut (a_byte (both Stamps.stamp Stamps.found))
+    ensures put { OnOk result (IsPut (a_byte (both Stamps.stamp Stamps.found))
         (Byte 86 ∷ stamp_fields kept.now ++ found_fields found.now) out.old out.new) }
+    ensures kept { Extends out.old out.new }
 {
     put_byte(out, 86)?;
     put_stamp(out, kept)?;
@@ -87,8 +93,9 @@ fn put_damaged(out: &mut Blob, kept: &Stamp, found: &Found) -> Result<(), AllocE
 }
 
 fn put_stale(out: &mut Blob, asked: u64, now: Option<u64>) -> Result<(), AllocError>
-    ensures { OnOk result
+    ensures put { OnOk result
         (IsPut (a_byte (a_long optional_long)) (Byte 87 ∷ Long asked ∷ optional_fields now) out.old out.new) }
+    ensures kept { Extends out.old out.new }
 {
     put_byte(out, 87)?;
     put_long(out, asked)?;
@@ -96,7 +103,8 @@ fn put_stale(out: &mut Blob, asked: u64, now: Option<u64>) -> Result<(), AllocEr
 }
 
 fn put_absent_user(out: &mut Blob, users: u32) -> Result<(), AllocError>
-    ensures { OnOk result (IsPut (a_byte (a_word Stop)) (Byte 88 ∷ Word users ∷ []) out.old out.new) }
+    ensures put { OnOk result (IsPut (a_byte (a_word Stop)) (Byte 88 ∷ Word users ∷ []) out.old out.new) }
+    ensures kept { Extends out.old out.new }
 {
     put_byte(out, 88)?;
     put_word(out, users)
@@ -105,7 +113,8 @@ fn put_absent_user(out: &mut Blob, users: u32) -> Result<(), AllocError>
 /// Adds the kind of a reply and its fields at the end.
 pub fn put_reply(out: &mut Blob, reply: &Reply) -> Result<(), AllocError>
     requires { AreShort (reply_fields reply.now) }
-    ensures { OnOk result (IsPut (tagged replies) (reply_fields reply.now) out.old out.new) }
+    ensures put { OnOk result (IsPut (tagged replies) (reply_fields reply.now) out.old out.new) }
+    ensures kept { Extends out.old out.new }
 {
     match reply {
         Reply::Done => put_byte(out, 64),

@@ -4,7 +4,7 @@ ghost use Rattle.std.specs.Prelude.{[], ◌∷◌, OnOk};
 ghost use Rattle.frame_fields.specs.Fields.{Byte, Word, Long, Text, After};
 ghost use Rattle.frame_fields.specs.Layouts.{Stop, tagged};
 ghost use Rattle.frame_fields.specs.Parts.{a_byte, a_word, a_long, a_blob, a_path, an_after, a_kind, kind_byte};
-ghost use Rattle.frame_fields.specs.Frames.{AreShort, IsPut};
+ghost use Rattle.frame_fields.specs.Frames.{AreShort, Extends, IsPut};
 ghost use Rattle.req_frames.specs.Requests.{request_fields, requests};
 
 use far_words::frames::{Kind, Request};
@@ -17,7 +17,8 @@ const ROOM_BESIDE_BLOBS: usize = 512;
 
 /// A kind and a name.
 fn put_named(out: &mut Blob, kind: u8, path: &Path) -> Result<(), AllocError>
-    ensures { OnOk result (IsPut (a_byte (a_path Stop)) (Byte kind ∷ Text path.now ∷ []) out.old out.new) }
+    ensures put { OnOk result (IsPut (a_byte (a_path Stop)) (Byte kind ∷ Text path.now ∷ []) out.old out.new) }
+    ensures kept { Extends out.old out.new }
 {
     put_byte(out, kind)?;
     put_path(out, path)
@@ -25,8 +26,9 @@ fn put_named(out: &mut Blob, kind: u8, path: &Path) -> Result<(), AllocError>
 
 /// A kind, a name and a number.
 fn put_named_long(out: &mut Blob, kind: u8, path: &Path, number: u64) -> Result<(), AllocError>
-    ensures { OnOk result
+    ensures put { OnOk result
         (IsPut (a_byte (a_path (a_long Stop))) (Byte kind ∷ Text path.now ∷ Long number ∷ []) out.old out.new) }
+    ensures kept { Extends out.old out.new }
 {
     put_byte(out, kind)?;
     put_path(out, path)?;
@@ -36,8 +38,9 @@ fn put_named_long(out: &mut Blob, kind: u8, path: &Path, number: u64) -> Result<
 /// A kind, a name and bytes.
 fn put_named_blob(out: &mut Blob, kind: u8, path: &Path, bytes: &Blob) -> Result<(), AllocError>
     requires { AreShort (Byte kind ∷ Text path.now ∷ Text bytes.now ∷ []) }
-    ensures { OnOk result
+    ensures put { OnOk result
         (IsPut (a_byte (a_path (a_blob Stop))) (Byte kind ∷ Text path.now ∷ Text bytes.now ∷ []) out.old out.new) }
+    ensures kept { Extends out.old out.new }
 {
     put_byte(out, kind)?;
     put_path(out, path)?;
@@ -45,15 +48,17 @@ fn put_named_blob(out: &mut Blob, kind: u8, path: &Path, bytes: &Blob) -> Result
 }
 
 fn put_hello(out: &mut Blob, user: u32) -> Result<(), AllocError>
-    ensures { OnOk result (IsPut (a_byte (a_word Stop)) (Byte 1 ∷ Word user ∷ []) out.old out.new) }
+    ensures put { OnOk result (IsPut (a_byte (a_word Stop)) (Byte 1 ∷ Word user ∷ []) out.old out.new) }
+    ensures kept { Extends out.old out.new }
 {
     put_byte(out, 1)?;
     put_word(out, user)
 }
 
 fn put_make(out: &mut Blob, path: &Path, kind: Kind, span: u64) -> Result<(), AllocError>
-    ensures { OnOk result (IsPut (a_byte (a_path (a_kind (a_long Stop))))
+    ensures put { OnOk result (IsPut (a_byte (a_path (a_kind (a_long Stop))))
         (Byte 2 ∷ Text path.now ∷ Byte (kind_byte kind) ∷ Long span ∷ []) out.old out.new) }
+    ensures kept { Extends out.old out.new }
 {
     put_byte(out, 2)?;
     put_path(out, path)?;
@@ -62,8 +67,9 @@ fn put_make(out: &mut Blob, path: &Path, kind: Kind, span: u64) -> Result<(), Al
 }
 
 fn put_list(out: &mut Blob, path: &Path, after: &Option<Part>) -> Result<(), AllocError>
-    ensures { OnOk result
+    ensures put { OnOk result
         (IsPut (a_byte (a_path (an_after Stop))) (Byte 4 ∷ Text path.now ∷ After after.now ∷ []) out.old out.new) }
+    ensures kept { Extends out.old out.new }
 {
     put_byte(out, 4)?;
     put_path(out, path)?;
@@ -71,15 +77,17 @@ fn put_list(out: &mut Blob, path: &Path, after: &Option<Part>) -> Result<(), All
 }
 
 fn put_top(out: &mut Blob, after: &Option<Part>) -> Result<(), AllocError>
-    ensures { OnOk result (IsPut (a_byte (an_after Stop)) (Byte 5 ∷ After after.now ∷ []) out.old out.new) }
+    ensures put { OnOk result (IsPut (a_byte (an_after Stop)) (Byte 5 ∷ After after.now ∷ []) out.old out.new) }
+    ensures kept { Extends out.old out.new }
 {
     put_byte(out, 5)?;
     put_after(out, after)
 }
 
 fn put_read(out: &mut Blob, path: &Path, from: u64, len: u32) -> Result<(), AllocError>
-    ensures { OnOk result (IsPut (a_byte (a_path (a_long (a_word Stop))))
+    ensures put { OnOk result (IsPut (a_byte (a_path (a_long (a_word Stop))))
         (Byte 9 ∷ Text path.now ∷ Long from ∷ Word len ∷ []) out.old out.new) }
+    ensures kept { Extends out.old out.new }
 {
     put_named_long(out, 9, path, from)?;
     put_word(out, len)
@@ -87,13 +95,25 @@ fn put_read(out: &mut Blob, path: &Path, from: u64, len: u32) -> Result<(), Allo
 
 fn put_put(out: &mut Blob, path: &Path, key: &Blob, value: &Blob) -> Result<(), AllocError>
     requires { AreShort (Byte 15 ∷ Text path.now ∷ Text key.now ∷ Text value.now ∷ []) }
-    ensures { OnOk result (IsPut (a_byte (a_path (a_blob (a_blob Stop))))
+    ensures put { OnOk result (IsPut (a_byte (a_path (a_blob (a_blob Stop))))
         (Byte 15 ∷ Text path.now ∷ Text key.now ∷ Text value.now ∷ []) out.old out.new) }
+    ensures kept { Extends out.old out.new }
 {
     put_byte(out, 15)?;
     put_path(out, path)?;
     put_text(out, key.items())?;
     put_text(out, value.items())
+}
+
+/// A kind, and the pair of a slice and its number.
+fn put_pair(out: &mut Blob, kind: u8, slice: u32, number: u64) -> Result<(), AllocError>
+    ensures put { OnOk result
+        (IsPut (a_byte (a_word (a_long Stop))) (Byte kind ∷ Word slice ∷ Long number ∷ []) out.old out.new) }
+    ensures kept { Extends out.old out.new }
+{
+    put_byte(out, kind)?;
+    put_word(out, slice)?;
+    put_long(out, number)
 }
 
 fn put_read_slice(
@@ -103,24 +123,22 @@ fn put_read_slice(
     from: u32,
     len: u32,
 ) -> Result<(), AllocError>
-    ensures { OnOk result (IsPut (a_byte (a_word (a_long (a_word (a_word Stop)))))
+    ensures put { OnOk result (IsPut (a_byte (a_word (a_long (a_word (a_word Stop)))))
         (Byte 21 ∷ Word slice ∷ Long number ∷ Word from ∷ Word len ∷ []) out.old out.new) }
+    ensures kept { Extends out.old out.new }
 {
-    put_byte(out, 21)?;
-    put_word(out, slice)?;
-    put_long(out, number)?;
+    put_pair(out, 21, slice, number)?;
     put_word(out, from)?;
     put_word(out, len)
 }
 
 fn put_get_slice(out: &mut Blob, slice: u32, number: u64, key: &Blob) -> Result<(), AllocError>
     requires { AreShort (Byte 22 ∷ Word slice ∷ Long number ∷ Text key.now ∷ []) }
-    ensures { OnOk result (IsPut (a_byte (a_word (a_long (a_blob Stop))))
+    ensures put { OnOk result (IsPut (a_byte (a_word (a_long (a_blob Stop))))
         (Byte 22 ∷ Word slice ∷ Long number ∷ Text key.now ∷ []) out.old out.new) }
+    ensures kept { Extends out.old out.new }
 {
-    put_byte(out, 22)?;
-    put_word(out, slice)?;
-    put_long(out, number)?;
+    put_pair(out, 22, slice, number)?;
     put_text(out, key.items())
 }
 
@@ -132,18 +150,18 @@ fn put_put_slice(
     value: &Blob,
 ) -> Result<(), AllocError>
     requires { AreShort (Byte 23 ∷ Word slice ∷ Long number ∷ Text key.now ∷ Text value.now ∷ []) }
-    ensures { OnOk result (IsPut (a_byte (a_word (a_long (a_blob (a_blob Stop)))))
+    ensures put { OnOk result (IsPut (a_byte (a_word (a_long (a_blob (a_blob Stop)))))
         (Byte 23 ∷ Word slice ∷ Long number ∷ Text key.now ∷ Text value.now ∷ []) out.old out.new) }
+    ensures kept { Extends out.old out.new }
 {
-    put_byte(out, 23)?;
-    put_word(out, slice)?;
-    put_long(out, number)?;
+    put_pair(out, 23, slice, number)?;
     put_text(out, key.items())?;
     put_text(out, value.items())
 }
 
 fn put_report(out: &mut Blob, demand: u64) -> Result<(), AllocError>
-    ensures { OnOk result (IsPut (a_byte (a_long Stop)) (Byte 24 ∷ Long demand ∷ []) out.old out.new) }
+    ensures put { OnOk result (IsPut (a_byte (a_long Stop)) (Byte 24 ∷ Long demand ∷ []) out.old out.new) }
+    ensures kept { Extends out.old out.new }
 {
     put_byte(out, 24)?;
     put_long(out, demand)
@@ -152,7 +170,8 @@ fn put_report(out: &mut Blob, demand: u64) -> Result<(), AllocError>
 /// Adds the kind of a request and its fields at the end.
 pub fn put_request(out: &mut Blob, request: &Request) -> Result<(), AllocError>
     requires { AreShort (request_fields request.now) }
-    ensures { OnOk result (IsPut (tagged requests) (request_fields request.now) out.old out.new) }
+    ensures put { OnOk result (IsPut (tagged requests) (request_fields request.now) out.old out.new) }
+    ensures kept { Extends out.old out.new }
 {
     match request {
         Request::Hello { user } => put_hello(out, *user),

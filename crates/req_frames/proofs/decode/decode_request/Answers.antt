@@ -1,4 +1,4 @@
-use Rattle.std.proofs.Common.{◌≡◌, ◌≤◌, ℕ, List, drop, length, arith}
+use Rattle.std.proofs.Common.{arith}
 use Rattle.std.proofs.lemmas.List.{take_rest}
 use Rattle.frame_fields.proofs.FrameLaws.{whole_frame}
 use Rattle.req_frames.specs.Requests.{request_frame, request_fields, requests}

@@ -8,16 +8,16 @@ pub close_frame-requires-clause-room : goal.close_frame-requires-clause-room
 close_frame-requires-clause-room c =
     let fields = request_fields c.args.request.now in
     let put = c.put_request.new.out in
-    let half = opened requests c.reserve.new.self c.put_word.new.out put fields c.in_ok-put_word.ensures
-    c.in_ok-put_request.ensures c.requires in
+    let half = opened requests c.reserve.new.self c.put_word.new.out put fields c.in_ok-put_word.ensures.put
+    c.in_ok-put_request.ensures.put c.requires in
     has_room requests c.reserve.new.self put fields half (length c.items-at.result.now) (ap length c.items-at.ensures)
 
 pub close_frame-requires-clause-short : goal.close_frame-requires-clause-short
 close_frame-requires-clause-short c =
     let fields = request_fields c.args.request.now in
     let put = c.put_request.new.out in
-    let half = opened requests c.reserve.new.self c.put_word.new.out put fields c.in_ok-put_word.ensures
-    c.in_ok-put_request.ensures c.requires in
+    let half = opened requests c.reserve.new.self c.put_word.new.out put fields c.in_ok-put_word.ensures.put
+    c.in_ok-put_request.ensures.put c.requires in
     is_short requests c.reserve.new.self put fields half (length c.items-at.result.now) (ap length c.items-at.ensures)
 
 pub returns-clause-put : goal.returns-clause-put
@@ -25,11 +25,11 @@ unfolding request_frame
 returns-clause-put c =
     let fields = request_fields c.args.request.now in
     let put = c.put_request.new.out in
-    let half = opened requests c.reserve.new.self c.put_word.new.out put fields c.in_ok-put_word.ensures
-    c.in_ok-put_request.ensures c.requires in
+    let half = opened requests c.reserve.new.self c.put_word.new.out put fields c.in_ok-put_word.ensures.put
+    c.in_ok-put_request.ensures.put c.requires in
     closed requests c.reserve.new.self put fields half (length c.items-at.result.now) c.close_frame.new.out
     (ap length c.items-at.ensures) c.close_frame.ensures
     ∙ ap (λ (t : List ℕ). t ++ frame_of fields) c.reserve.ensures
 
 pub returns-clause-within : goal.returns-clause-within
-returns-clause-within c = record { fits = c.in_ok-put_request.ensures.1; short = c.requires }
+returns-clause-within c = record { fits = c.in_ok-put_request.ensures.put.1; short = c.requires }

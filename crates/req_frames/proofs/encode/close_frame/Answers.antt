@@ -1,4 +1,4 @@
-use Rattle.std.proofs.Common.{◌≡◌, ◌+◌, ◌-◌, ℕ, length, ap, ◌∙◌}
+use Rattle.std.proofs.Common.{◌+◌, ◌-◌, ℕ, length, ap, ◌∙◌}
 use Rattle.frame_fields.specs.Fields.{spelling, Word}
 use Rattle.frame_fields.proofs.FieldLaws.{length_word}
 use Rattle.req_frames.proofs.Closing.{closes}

@@ -1,6 +1,6 @@
-use Rattle.std.proofs.Common.{◌<◌, ◌^◌, ◌∷◌, [], length, ap, arith}
+use Rattle.std.proofs.Common.{◌<◌, ◌^◌, ◌∷◌, [], length, arith}
 use Rattle.std.proofs.lemmas.Grind.{common_steps}
-use Rattle.frame_fields.specs.Fields.{Byte, Text}
+use Rattle.frame_fields.specs.Fields.{Byte}
 use Rattle.frame_fields.proofs.FrameLaws.{short_text}
 use Rattle.req_frames.proofs.put_replies.put_blob.Goals as goal
 
@@ -10,8 +10,8 @@ put_text-requires c =
     c.requires in
     grind (arith, common_steps)
 
-pub returns : goal.returns
-returns c =
+pub returns-clause-put : goal.returns-clause-put
+returns-clause-put c =
     let bytes_low : length c.args.bytes.now < 2 ^ 32 = short_text (Byte c.args.kind ∷ []) c.args.bytes.now []
     c.requires in
     grind (arith, common_steps)

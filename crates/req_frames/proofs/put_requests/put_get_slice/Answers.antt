@@ -1,6 +1,6 @@
-use Rattle.std.proofs.Common.{◌<◌, ◌^◌, ◌∷◌, [], length, ap, arith}
+use Rattle.std.proofs.Common.{◌<◌, ◌^◌, ◌∷◌, [], length, arith}
 use Rattle.std.proofs.lemmas.Grind.{common_steps}
-use Rattle.frame_fields.specs.Fields.{Byte, Word, Long, Text}
+use Rattle.frame_fields.specs.Fields.{Byte, Word, Long}
 use Rattle.frame_fields.proofs.FrameLaws.{short_text}
 use Rattle.req_frames.proofs.put_requests.put_get_slice.Goals as goal
 
@@ -10,8 +10,8 @@ put_text-requires c =
     c.args.key.now [] c.requires in
     grind (arith, common_steps)
 
-pub returns : goal.returns
-returns c =
+pub returns-clause-put : goal.returns-clause-put
+returns-clause-put c =
     let key_low : length c.args.key.now < 2 ^ 32 = short_text (Byte 22 ∷ Word c.args.slice ∷ Long c.args.number ∷ [])
     c.args.key.now [] c.requires in
     grind (arith, common_steps)

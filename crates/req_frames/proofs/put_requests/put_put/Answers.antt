@@ -1,4 +1,4 @@
-use Rattle.std.proofs.Common.{◌<◌, ◌^◌, ◌∷◌, [], length, ap, arith}
+use Rattle.std.proofs.Common.{◌<◌, ◌^◌, ◌∷◌, [], length, arith}
 use Rattle.std.proofs.lemmas.Grind.{common_steps}
 use Rattle.frame_fields.specs.Fields.{Byte, Text}
 use Rattle.frame_fields.proofs.FrameLaws.{short_text}
@@ -20,8 +20,8 @@ put_text-requires-2 c =
     c.args.key.now ∷ []) c.args.value.now [] c.requires in
     grind (arith, common_steps)
 
-pub returns : goal.returns
-returns c =
+pub returns-clause-put : goal.returns-clause-put
+returns-clause-put c =
     let key_low : length c.args.key.now < 2 ^ 32 = short_text (Byte 15 ∷ Text c.args.path.now ∷ []) c.args.key.now
     (Text c.args.value.now ∷ []) c.requires in
     let value_low : length c.args.value.now < 2 ^ 32 = short_text (Byte 15 ∷ Text c.args.path.now ∷ Text
