@@ -1,2 +1,2 @@
--- a user's reports, one by one
+-- a user's calls, one by one
 pub mod Reporting

@@ -1,2 +1,2 @@
--- what users report
+-- what users ask of a book
 pub mod Reports

@@ -1,13 +1,13 @@
-//! Two users that report at once.
-ghost use Rattle.std.specs.Prelude.{◌≡◌, ◌≢◌, ◌≤◌, ◌+◌, [], ◌∷◌, IfOk};
+//! Two users that join, leave and report at once.
+ghost use Rattle.std.specs.Prelude.{◌≡◌, ◌≢◌, ◌≤◌, ◌+◌, true, [], ◌∷◌, IfOk};
 ghost use Rattle.turn_cell.specs.History.{In, asks_by, entries};
 ghost use Rattle.turn_cell.specs.Passes.{MakesAsks};
 ghost use Rattle.turn_cell.specs.declared.knows.Logged.{Logged};
 ghost use Rattle.karma_rule.specs.Limits.{IsPlan};
-ghost use Rattle.demand_book.specs.BookLegal.{StandsFor};
-ghost use Rattle.demand_book.specs.declared.as_object.BookAsk.TheVariants.{Report};
+ghost use Rattle.karma_rule.specs.declared.shape.Shape.{Shape};
+ghost use Rattle.demand_book.specs.BookLegal.{StandsFor, fits_book};
 ghost use Rattle.demand_book.specs.declared.as_object.BookEntry.{BookEntry};
-ghost use Rattle.book_cell.specs.Reports.{book_ask, reports};
+ghost use Rattle.book_cell.specs.Reports.{book_ask, nth_ask, user_asks};
 
 use demand_book::{Book, BookAsk};
 use karma_rule::Shape;
@@ -27,18 +27,38 @@ pub struct Reported {
     pub calls_left: u64,
 }
 
-/// Reports one demand of a user.
-fn report<R: Wait>(rt: &R, cell: &TurnCell<Book>, pass: &mut Pass<Book>, user: u32, demand: u64)
+/// A user's call with this number: in turn it joins with a share of its own, leaves, and reports the number as its
+/// demand.
+fn ask_of(user: u32, number: u64) -> BookAsk
+    ensures ask { result ≡ nth_ask user number }
+    ensures fits { (shape : Shape) → fits_book shape result ≡ true }
+{
+    match number % 3 {
+        0 => BookAsk::Report {
+            user,
+            demand: number,
+        },
+        1 => BookAsk::Join {
+            user,
+            fair: 1,
+            floor: 0,
+        },
+        _ => BookAsk::Leave { user },
+    }
+}
+
+/// Makes one of a user's calls.
+fn ask_once<R: Wait>(rt: &R, cell: &TurnCell<Book>, pass: &mut Pass<Book>, user: u32, number: u64)
     requires cell { pass.old.cell ≡ cell.now }
     requires left { 1 ≤ pass.old.left }
     requires named { In pass.old.number pass.old.names }
-    ensures asks { MakesAsks book_ask pass.old (Report user demand ∷ []) pass.new }
+    ensures asks { MakesAsks book_ask pass.old (nth_ask user number ∷ []) pass.new }
 {
-    cell.call(rt, pass, BookAsk::Report { user, demand });
+    cell.call(rt, pass, ask_of(user, number));
 }
 
-/// Reports the user's demands from 1 up to this one, one after the other.
-fn report_all<R: Wait>(
+/// Makes the user's calls from 1 up to this one, one after the other.
+fn ask_all<R: Wait>(
     rt: &R,
     cell: &TurnCell<Book>,
     mut pass: Pass<Book>,
@@ -48,17 +68,17 @@ fn report_all<R: Wait>(
     requires cell { pass.cell ≡ cell.now }
     requires left { most ≤ pass.left }
     requires named { In pass.number pass.names }
-    ensures asks { MakesAsks book_ask pass (reports user most) result }
+    ensures asks { MakesAsks book_ask pass (user_asks user most) result }
 {
     for before in 0..most {
-        report(rt, cell, &mut pass, user, u64::from(before) + 1);
+        ask_once(rt, cell, &mut pass, user, u64::from(before) + 1);
     }
     pass
 }
 
-/// Users 0 and 1 each report the demands from 1 up to `calls` at once, each through a pass of its own.
+/// Users 0 and 1 each make `calls` calls at once, each through a pass of its own: in turn they join, leave and report.
 ///
-/// Each report stands in the history that is shown, once and in its user's order, and nothing else does; and the book stands for that history. Users that
+/// Each call stands in the history that is shown, once and in its user's order, and nothing else does; and the book stands for that history. Users that
 /// the book doesn't have are refused there. The one error is want of memory.
 pub fn report_at_once<R: Threads + Wait + Sync>(
     rt: &R,
@@ -70,8 +90,8 @@ pub fn report_at_once<R: Threads + Wait + Sync>(
     ensures stands { IfOk result (λ done. StandsFor done.book (entries done.shown)) }
     ensures shape { IfOk result (λ done. done.book.shape ≡ shape) }
     ensures apart { IfOk result (λ done. done.second ≢ 0) }
-    ensures first { IfOk result (λ done. asks_by book_ask 0 done.shown ≡ reports 0 calls) }
-    ensures second { IfOk result (λ done. asks_by book_ask done.second done.shown ≡ reports 1 calls) }
+    ensures first { IfOk result (λ done. asks_by book_ask 0 done.shown ≡ user_asks 0 calls) }
+    ensures second { IfOk result (λ done. asks_by book_ask done.second done.shown ≡ user_asks 1 calls) }
     ensures alone { IfOk result (λ done. (l : Logged BookEntry) → In l done.shown → In l.by (0 ∷ done.second ∷ [])) }
     ensures left { IfOk result (λ done. done.calls_left + calls ≡ CALLS_EACH) }
 {
@@ -83,14 +103,14 @@ pub fn report_at_once<R: Threads + Wait + Sync>(
             requires cell { first.cell ≡ cell }
             requires left { calls ≤ first.left }
             requires named { In first.number first.names }
-            ensures asks { MakesAsks book_ask first (reports 0 calls) result }
-        { report_all(rt, &cell, first, 0, calls) },
+            ensures asks { MakesAsks book_ask first (user_asks 0 calls) result }
+        { ask_all(rt, &cell, first, 0, calls) },
         || -> Pass<Book>
             requires cell { second.cell ≡ cell }
             requires left { calls ≤ second.left }
             requires named { In second.number second.names }
-            ensures asks { MakesAsks book_ask second (reports 1 calls) result }
-        { report_all(rt, &cell, second, 1, calls) },
+            ensures asks { MakesAsks book_ask second (user_asks 1 calls) result }
+        { ask_all(rt, &cell, second, 1, calls) },
     );
     let last = first.join(second, &cell);
     let calls_left = last.calls_left();

@@ -1,19 +1,22 @@
 -- A book's history that grows by one entry.
-use Rattle.std.proofs.Common.{◌≡◌, ℕ, List, [], ◌∷◌, ◌++◌, true, false, Ok, Err, OnOk, OnErr, IsErr, ◌≤◌, ◌↔◌, refl, ap, sym, ◌∙◌, subst}
+use Rattle.std.proofs.Common.{◌≡◌, ℕ, List, [], ◌∷◌, ◌++◌, map, true, false, Ok, Err, OnOk, OnErr, IsErr, ◌≤◌, ◌↔◌, refl, ap, sym, ◌∙◌, subst}
 use mathlib.Core.Bool.{true≢false, false≢true}
 use Rattle.std.specs.Result.{is_err}
 use Rattle.std.specs.declared.result.Result.{Result}
 use Rattle.karma_rule.specs.declared.shape.Shape.{Shape}
 use Rattle.demand_book.specs.declared.book.ReportEnd.{ReportEnd}
+use Rattle.demand_book.specs.declared.book.JoinEnd.{JoinEnd}
+use Rattle.demand_book.specs.declared.book.LeaveEnd.{LeaveEnd}
 use Rattle.demand_book.specs.declared.book.QuantaSpent.{QuantaSpent}
 use Rattle.demand_book.specs.declared.book.TheConstants.{QUANTA}
 use Rattle.demand_book.specs.declared.report.Report.{Report as Told}
 use Rattle.demand_book.specs.declared.as_object.BookAsk.{BookAsk}
-use Rattle.demand_book.specs.declared.as_object.BookAsk.TheVariants.{Report, Share, Tick}
+use Rattle.demand_book.specs.declared.as_object.BookAsk.TheVariants.{Report, Join, Leave, Share, Tick}
 use Rattle.demand_book.specs.declared.as_object.BookTell.{BookTell}
-use Rattle.demand_book.specs.declared.as_object.BookTell.TheVariants.{Report as Reported, Share as Shared, Tick as Ticked}
+use Rattle.demand_book.specs.declared.as_object.BookTell.TheVariants.{Report as Reported, Join as Joined, Leave as Left, Share as Shared, Tick as Ticked}
 use Rattle.demand_book.specs.declared.as_object.BookEntry.{BookEntry}
-use Rattle.demand_book.specs.Book.{BookView, opening_book, reported, ticked}
+use Rattle.demand_book.specs.Book.{BookView, opening_book, reported, joined, left, ticked}
+use Rattle.demand_book.specs.Roster.{seat_of}
 use Rattle.demand_book.specs.BookLegal.{entry_of, book_with, book_after, IsRight, AnswersTick, BookLegal, StandsFor}
 
 after_one : (book : BookView) (history : List BookEntry) (entry : BookEntry) → book_after book (history ++ entry ∷ []) ≡ book_with (book_after book history) entry.ask entry.tell
@@ -27,10 +30,26 @@ legal_one book (first ∷ history) entry legal result = (legal.0, legal_one (boo
 pub shape_stays : (book : BookView) (ask : BookAsk) (tell : BookTell) → (book_with book ask tell).shape ≡ book.shape
 shape_stays book (Report user demand) (Reported (Ok made)) = refl
 shape_stays book (Report user demand) (Reported (Err end)) = refl
+shape_stays book (Report user demand) (Joined answer) = refl
+shape_stays book (Report user demand) (Left answer) = refl
 shape_stays book (Report user demand) (Shared answer) = refl
 shape_stays book (Report user demand) (Ticked told spent) = refl
+shape_stays book (Join user fair floor) (Reported answer) = refl
+shape_stays book (Join user fair floor) (Joined (Ok made)) = refl
+shape_stays book (Join user fair floor) (Joined (Err end)) = refl
+shape_stays book (Join user fair floor) (Left answer) = refl
+shape_stays book (Join user fair floor) (Shared answer) = refl
+shape_stays book (Join user fair floor) (Ticked told spent) = refl
+shape_stays book (Leave user) (Reported answer) = refl
+shape_stays book (Leave user) (Joined answer) = refl
+shape_stays book (Leave user) (Left (Ok made)) = refl
+shape_stays book (Leave user) (Left (Err end)) = refl
+shape_stays book (Leave user) (Shared answer) = refl
+shape_stays book (Leave user) (Ticked told spent) = refl
 shape_stays book (Share user) tell = refl
 shape_stays book (Tick report) (Reported answer) = refl
+shape_stays book (Tick report) (Joined answer) = refl
+shape_stays book (Tick report) (Left answer) = refl
 shape_stays book (Tick report) (Shared answer) = refl
 shape_stays book (Tick report) (Ticked told true) = refl
 shape_stays book (Tick report) (Ticked told false) = refl
@@ -54,6 +73,14 @@ pub report_leaves : (book later : BookView) (user demand : ℕ) (result : Result
 report_leaves book later user demand (Ok made) ok err = ok
 report_leaves book later user demand (Err end) ok err = err
 
+pub join_leaves : (book later : BookView) (user fair floor : ℕ) (result : Result ℕ JoinEnd) → OnOk result (later ≡ joined book user (record { fair = fair; floor = floor })) → OnErr result (later ≡ book) → later ≡ book_with book (Join user fair floor) (Joined result)
+join_leaves book later user fair floor (Ok made) ok err = ok
+join_leaves book later user fair floor (Err end) ok err = err
+
+pub leave_leaves : (book later : BookView) (user : ℕ) (result : Result ℕ LeaveEnd) → OnOk result (later ≡ left book user) → OnErr result (later ≡ book) → later ≡ book_with book (Leave user) (Left result)
+leave_leaves book later user (Ok made) ok err = ok
+leave_leaves book later user (Err end) ok err = err
+
 -- a new book stands for no call
 pub stands_new : (book : BookView) (shape : Shape) → book ≡ opening_book shape → StandsFor book []
 stands_new book shape opens = rw opens (record { legal = tt; became = refl })
@@ -65,16 +92,18 @@ module _ (book later : BookView) (report told : Told) where
   tick_leaves (Err spent) made kept = kept
 
   pub tick_answers : (result : Result (Unit {0}) QuantaSpent) → (IsErr result ↔ (QUANTA ≤ book.quanta)) → OnOk result (later ≡ ticked book) → OnErr result (told ≡ report)
-      → OnOk result (told ≡ record { quantum = book.quanta; rows = later.rows }) → AnswersTick book report told (is_err result)
-  tick_answers (Ok done) spent made untold new = record {
+      → OnOk result ((told.quantum ≡ book.quanta) × (told.rows ≡ later.rows)) → OnOk result ((told.changed ≡ false) ↔ (map seat_of book.rows ≡ book.roster)) → AnswersTick book report told (is_err result)
+  tick_answers (Ok done) spent made untold new changed = record {
     exactly = spent;
     untold = λ told_then. absurd (false≢true told_then);
-    quantum = λ made_one. ap (λ (told_then : Told). told_then.quantum) new;
-    rows = λ made_one. ap (λ (told_then : Told). told_then.rows) new ∙ ap (λ (state : BookView). state.rows) made;
+    quantum = λ made_one. new.0;
+    changed = λ made_one. changed;
+    rows = λ made_one. new.1 ∙ ap (λ (state : BookView). state.rows) made;
   }
-  tick_answers (Err end) spent made untold new = record {
+  tick_answers (Err end) spent made untold new changed = record {
     exactly = spent;
     untold = λ told_then. untold;
     quantum = λ made_one. absurd (true≢false made_one);
+    changed = λ made_one. absurd (true≢false made_one);
     rows = λ made_one. absurd (true≢false made_one);
   }

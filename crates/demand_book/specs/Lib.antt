@@ -1,3 +1,5 @@
+-- who is present at a quantum, with which share and credits
+pub mod Roster
 -- what contracts see of a book, and what its calls leave
 pub mod Book
 -- what holds of every book

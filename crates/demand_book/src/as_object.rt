@@ -1,8 +1,8 @@
 //! The book as an object, which many threads may call by a turn cell.
 
-use crate::book::{Book, ReportEnd};
+use crate::book::{Book, JoinEnd, LeaveEnd, ReportEnd};
 use crate::report::Report;
-use karma_rule::{Row, Shape};
+use karma_rule::{MOST_FAIR, Row, Shape};
 use turn_cell::Object;
 
 /// A call of a book. None is a move.
@@ -10,6 +10,10 @@ use turn_cell::Object;
 pub enum BookAsk {
     /// [`Book::report`].
     Report { user: u32, demand: u64 },
+    /// [`Book::join`]. The share has to be within its limits.
+    Join { user: u32, fair: u64, floor: u64 },
+    /// [`Book::leave`].
+    Leave { user: u32 },
     /// [`Book::share`].
     Share { user: u32 },
     /// [`Book::tick`]. The report has to have a row for each user of the book.
@@ -21,6 +25,10 @@ pub enum BookAsk {
 pub enum BookTell {
     /// How many quanta were made before the report, or why it wasn't taken.
     Report(Result<u32, ReportEnd>),
+    /// How many quanta were made before the user joined, or why it didn't.
+    Join(Result<u32, JoinEnd>),
+    /// How many quanta were made before the user left, or why it didn't.
+    Leave(Result<u32, LeaveEnd>),
     /// The user's row, or none where there is no such user.
     Share(Option<Row>),
     /// The report with the new quantum, or as it was asked with where all quanta were spent.
@@ -67,7 +75,14 @@ impl Object for Book {
     fn fits(key: Shape, ask: &BookAsk) -> bool {
         match ask {
             BookAsk::Tick { report } => report.rows.items().len() == key.users as usize,
-            BookAsk::Report { user: _, demand: _ } | BookAsk::Share { user: _ } => true,
+            BookAsk::Join {
+                user: _,
+                fair,
+                floor,
+            } => *fair >= 1 && *fair <= MOST_FAIR && *floor <= *fair,
+            BookAsk::Report { user: _, demand: _ }
+            | BookAsk::Leave { user: _ }
+            | BookAsk::Share { user: _ } => true,
         }
     }
 
@@ -78,6 +93,8 @@ impl Object for Book {
     fn apply(&mut self, ask: BookAsk) -> BookTell {
         match ask {
             BookAsk::Report { user, demand } => BookTell::Report(self.report(user, demand)),
+            BookAsk::Join { user, fair, floor } => BookTell::Join(self.join(user, fair, floor)),
+            BookAsk::Leave { user } => BookTell::Leave(self.leave(user)),
             BookAsk::Share { user } => BookTell::Share(self.share(user)),
             BookAsk::Tick { mut report } => {
                 let spent = self.tick(&mut report).is_err();

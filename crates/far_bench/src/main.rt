@@ -89,9 +89,10 @@ fn measure_quantum<R: Clock + AllocGlobal + Print>(
 ) -> anyhow::Result<ExitCode> {
     let mut times = quantum::measure(rt, work)?;
     println!(rt;
-        "small {} ns, greatest {} ns",
+        "small {} ns, greatest {} ns, mixed {} ns",
         quantum::usual_time(times.small.as_mut_slice()),
-        quantum::usual_time(times.greatest.as_mut_slice())
+        quantum::usual_time(times.greatest.as_mut_slice()),
+        quantum::usual_time(times.mixed.as_mut_slice())
     )?;
     Ok(ExitCode::from(0))
 }
@@ -185,11 +186,13 @@ fn check<R: Clock + AllocGlobal + Print + Threads + Wait + Sync>(
     }
     let times = quantum::measure(rt, quantum::little())?;
     println!(rt;
-        "quantum: {} and {} quanta, the last of {} and {} slices",
+        "quantum: {}, {} and {} quanta, the last of {}, {} and {} slices",
         times.small.len(),
         times.greatest.len(),
+        times.mixed.len(),
         times.small_given,
-        times.greatest_given
+        times.greatest_given,
+        times.mixed_given
     )?;
     let images = store::measure_images(rt, store::little())?;
     let blocks = store::measure_little(rt)?;

@@ -1,11 +1,13 @@
-//! Karma's rule alone: the time of a quantum by levels of credits, with small numbers and with the greatest.
+//! Karma's rule alone: the time of a quantum by levels of credits, with small numbers, with the greatest, and with shares
+//! that differ and users that are away.
 //!
-//! Each quantum changes every demand and is then timed. The two sizes take turns, quantum by quantum, over the same
-//! choices, so that other work on the machine hits both alike.
+//! Each quantum changes every demand and is then timed. The three take turns, quantum by quantum, over the same choices,
+//! so that other work on the machine hits all alike.
 
-ghost use Rattle.std.specs.Prelude.{◌<◌, ◌≤◌, length, All};
+ghost use Rattle.std.specs.Prelude.{◌≤◌, length, IfSome};
 ghost use Rattle.far_bench.specs.declared.quantum.TheConstants.{MOST_TIMES};
-ghost use Rattle.karma_rule.specs.declared.limits.TheConstants.{MOST_USERS, MOST_FAIR, MOST_DEMAND, CREDITS_BOUND};
+ghost use Rattle.karma_rule.specs.declared.limits.TheConstants.{MOST_USERS, MOST_FAIR, MOST_DEMAND};
+ghost use Rattle.karma_rule.specs.Quanta.{IsReady, CanMakeQuantum};
 
 use crate::words::read_number;
 use karma_batch::batch_quantum;
@@ -28,6 +30,8 @@ const KEPT_CREDITS: u64 = 1 << 61;
 struct Size {
     share: Share,
     credits: u64,
+    /// One user in ten is away, and the others have fair shares from 1 to 100.
+    mixed: bool,
     ghost fair: { share.fair ≤ MOST_FAIR },
     ghost floor: { share.floor ≤ share.fair },
 }
@@ -38,6 +42,16 @@ const SMALL: Size = Size {
         floor: 50,
     },
     credits: 100_000,
+    mixed: false,
+};
+
+const MIXED: Size = Size {
+    share: Share {
+        fair: 100,
+        floor: 50,
+    },
+    credits: 100_000,
+    mixed: true,
 };
 
 const GREATEST: Size = Size {
@@ -46,6 +60,7 @@ const GREATEST: Size = Size {
         floor: 1 << 31,
     },
     credits: 1 << 60,
+    mixed: false,
 };
 
 /// What is measured: so many quanta of so many users, with demands up to `times` fair shares that follow from the seed.
@@ -99,16 +114,62 @@ fn demand_for(seed: u64, most: u64) -> u64
     }
 }
 
-/// Changes each demand, by numbers that follow from the seed. The answer is the seed to go on with.
-fn change_demands(rows: &mut [Row], most: u64, mut seed: u64) -> u64
-    requires { most ≤ MOST_DEMAND }
-    ensures demands { All (λ row. row.demand ≤ MOST_DEMAND) rows.new }
-    ensures credits { All (λ row. row.credits < CREDITS_BOUND) rows.new }
+/// A user's share, or none where it is away.
+fn seat_of(size: Size, user: usize) -> Option<Share>
+    ensures fair { IfSome result (λ share. share.fair ≤ MOST_FAIR) }
+    ensures floor { IfSome result (λ share. share.floor ≤ share.fair) }
 {
-    for row in rows.iter_mut() {
+    if !size.mixed {
+        return Some(size.share);
+    }
+    if user % 10 == 9 {
+        return None;
+    }
+    let fair = (user as u64).wrapping_mul(37) % 100 + 1;
+    Some(Share {
+        fair,
+        floor: fair / 2,
+    })
+}
+
+/// The row that a user begins the next quantum with.
+fn next_row(row: Row, seat: Option<Share>, demand: u64) -> Row
+    requires demand { demand ≤ MOST_DEMAND }
+    requires fair { IfSome seat (λ share. share.fair ≤ MOST_FAIR) }
+    requires floor { IfSome seat (λ share. share.floor ≤ share.fair) }
+    ensures { IsReady result }
+{
+    match seat {
+        Some(share) => Row {
+            demand,
+            credits: row.credits.min(KEPT_CREDITS),
+            given: row.given,
+            fair: share.fair,
+            floor: share.floor,
+            present: true,
+        },
+        None => Row {
+            demand,
+            credits: 0,
+            given: row.given,
+            fair: 0,
+            floor: 0,
+            present: false,
+        },
+    }
+}
+
+/// Changes each demand, by numbers that follow from the seed: up to `times` of the user's own fair shares, whoever is
+/// away. The answer is the seed to go on with.
+fn change_demands(rows: &mut [Row], size: Size, times: u32, mut seed: u64) -> u64
+    requires { times ≤ MOST_TIMES }
+    ensures { CanMakeQuantum rows.new }
+{
+    for (user, row) in rows.iter_mut().enumerate() {
         seed = next_seed(seed);
-        row.demand = demand_for(seed, most);
-        row.credits = row.credits.min(KEPT_CREDITS);
+        let seat = seat_of(size, user);
+        let fair = seat.map_or(size.share.fair, |share| share.fair);
+        *row = next_row(*row, seat, demand_for(seed, u64::from(times) * fair));
     }
     seed
 }
@@ -124,9 +185,9 @@ fn timed_quantum(
     requires users { length rows.old ≤ MOST_USERS }
     requires times { times ≤ MOST_TIMES }
 {
-    let next = change_demands(rows, u64::from(times) * size.share.fair, seed);
+    let next = change_demands(rows, size, times, seed);
     let start = Instant::now(rt)?;
-    batch_quantum(rows, size.share);
+    batch_quantum(rows);
     let time = start.elapsed(rt)?;
     let nanos = u64::try_from(time.as_nanos()).unwrap_or(u64::MAX);
     Ok((nanos, next))
@@ -137,16 +198,21 @@ fn opening_rows(size: Size) -> [Row; ROWS] {
         demand: 0,
         credits: size.credits,
         given: 0,
+        fair: size.share.fair,
+        floor: size.share.floor,
+        present: true,
     }; ROWS]
 }
 
-/// The times of all quanta in nanoseconds, and how many slices the last quantum gave, small and greatest.
+/// The times of all quanta in nanoseconds, and how many slices the last quantum gave, of each size.
 #[derive(Drop)]
 pub struct Times {
     pub small: Vec<u64>,
     pub greatest: Vec<u64>,
+    pub mixed: Vec<u64>,
     pub small_given: u64,
     pub greatest_given: u64,
+    pub mixed_given: u64,
 }
 
 fn total_given(rows: &[Row]) -> u64 {
@@ -161,14 +227,19 @@ fn total_given(rows: &[Row]) -> u64 {
 pub fn measure<R: Clock + AllocGlobal>(rt: &R, work: QuantumWork) -> anyhow::Result<Times> {
     let mut small = opening_rows(SMALL);
     let mut greatest = opening_rows(GREATEST);
+    let mut mixed = opening_rows(MIXED);
     let mut small_times = Vec::new(rt.alloc());
     let mut greatest_times = Vec::new(rt.alloc());
+    let mut mixed_times = Vec::new(rt.alloc());
     let users = work.users as usize;
     let mut seed = work.seed;
     for _quantum in 0..work.quanta {
         let rows = &mut small[..users];
         let (time, _) = timed_quantum(rt, rows, SMALL, work.times, seed)?;
         small_times.push(time)?;
+        let rows = &mut mixed[..users];
+        let (time, _) = timed_quantum(rt, rows, MIXED, work.times, seed)?;
+        mixed_times.push(time)?;
         let rows = &mut greatest[..users];
         let (time, next) = timed_quantum(rt, rows, GREATEST, work.times, seed)?;
         greatest_times.push(time)?;
@@ -177,8 +248,10 @@ pub fn measure<R: Clock + AllocGlobal>(rt: &R, work: QuantumWork) -> anyhow::Res
     Ok(Times {
         small: small_times,
         greatest: greatest_times,
+        mixed: mixed_times,
         small_given: total_given(&small[..users]),
         greatest_given: total_given(&greatest[..users]),
+        mixed_given: total_given(&mixed[..users]),
     })
 }
 

@@ -2,6 +2,7 @@
 
 mod faults;
 mod replays;
+mod rosters;
 
 use crate::run_words;
 use far_io::{MemSink, MemSource, Raw};

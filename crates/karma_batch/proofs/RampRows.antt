@@ -33,36 +33,36 @@ sum_kept level ramps kept ramp inside = ap (sum_by (over level)) (take_more_set 
 
 -- ---- rows
 -- a row's ramp
-abbrev pub ramp_of : Side → ℕ → Row → Ramp
-ramp_of side floor row = record { from = key_of side row - movable_of side floor row; to = key_of side row }
+abbrev pub ramp_of : Side → Row → Ramp
+ramp_of side row = record { from = key_of side row - movable_of side row; to = key_of side row }
 
-pub over_row : (side : Side) (floor level : ℕ) (row : Row) → IsOpenRow floor row → over level (ramp_of side floor row) ≡ above side floor level row
-over_row side floor level row is_open =
-    let bound : (key_of side row ≤ CREDITS_TOP) × (movable_of side floor row ≤ key_of side row) = key_bound side floor row is_open in
+pub over_row : (side : Side) (level : ℕ) (row : Row) → IsOpenRow row → over level (ramp_of side row) ≡ above side level row
+over_row side level row is_open =
+    let bound : (key_of side row ≤ CREDITS_TOP) × (movable_of side row ≤ key_of side row) = key_bound side row is_open in
     omega (arith, bound.1)
 
-abbrev pub Stand : Side → ℕ → List Row → List Ramp → Type 0
-Stand side floor rows ramps = (level : ℕ) → sum_by (over level) ramps ≡ sum_by (above side floor level) rows
+abbrev pub Stand : Side → List Row → List Ramp → Type 0
+Stand side rows ramps = (level : ℕ) → sum_by (over level) ramps ≡ sum_by (above side level) rows
 
 -- a row that can move nothing has no ramp
-pub stand_none : (side : Side) (floor : ℕ) (rows : List Row) (place : ℕ) (ramps : List Ramp) → place < length rows → movable_of side floor (row_at rows place) ≤ 0 → Stand side floor (take place rows) ramps → Stand side floor (take (place + 1) rows) ramps
-stand_none side floor rows place ramps inside none stand level =
-    let more : sum_by (above side floor level) (take (place + 1) rows) ≡ sum_by (above side floor level) (take place rows) + above side floor level (row_at rows place) = sum_by_more (above side floor level) rows place no_row inside in
+pub stand_none : (side : Side) (rows : List Row) (place : ℕ) (ramps : List Ramp) → place < length rows → movable_of side (row_at rows place) ≤ 0 → Stand side (take place rows) ramps → Stand side (take (place + 1) rows) ramps
+stand_none side rows place ramps inside none stand level =
+    let more : sum_by (above side level) (take (place + 1) rows) ≡ sum_by (above side level) (take place rows) + above side level (row_at rows place) = sum_by_more (above side level) rows place no_row inside in
     omega (arith, stand level)
 
-pub stand_more : (side : Side) (floor : ℕ) (rows : List Row) (place : ℕ) (ramps : List Ramp) (kept : ℕ) (ramp : Ramp) → place < length rows → kept < length ramps → IsOpenRow floor (row_at rows place) → ramp ≡ ramp_of side floor (row_at rows place) → Stand side floor (take place rows) (take kept ramps) → Stand side floor (take (place + 1) rows) (take (kept + 1) (set ramps kept ramp))
-stand_more side floor rows place ramps kept ramp inside in_ramps is_open is_ramp stand level =
-    let more : sum_by (above side floor level) (take (place + 1) rows) ≡ sum_by (above side floor level) (take place rows) + above side floor level (row_at rows place) = sum_by_more (above side floor level) rows place no_row inside in
-    let same : over level ramp ≡ above side floor level (row_at rows place) = ap (over level) is_ramp ∙ over_row side floor level (row_at rows place) is_open in
+pub stand_more : (side : Side) (rows : List Row) (place : ℕ) (ramps : List Ramp) (kept : ℕ) (ramp : Ramp) → place < length rows → kept < length ramps → IsOpenRow (row_at rows place) → ramp ≡ ramp_of side (row_at rows place) → Stand side (take place rows) (take kept ramps) → Stand side (take (place + 1) rows) (take (kept + 1) (set ramps kept ramp))
+stand_more side rows place ramps kept ramp inside in_ramps is_open is_ramp stand level =
+    let more : sum_by (above side level) (take (place + 1) rows) ≡ sum_by (above side level) (take place rows) + above side level (row_at rows place) = sum_by_more (above side level) rows place no_row inside in
+    let same : over level ramp ≡ above side level (row_at rows place) = ap (over level) is_ramp ∙ over_row side level (row_at rows place) is_open in
     omega (arith, stand level, sum_kept level ramps kept ramp in_ramps)
 
 -- no key is above the top
-pub sum_top : (side : Side) (floor : ℕ) (rows : List Row) → All (IsOpenRow floor) rows → sum_by (above side floor CREDITS_TOP) rows ≡ 0
-sum_top side floor rows are_open =
-    let each : All (λ row. above side floor CREDITS_TOP row ≤ 0) rows = λ place default inside. (let bound : (key_of side (get_or rows place default) ≤ CREDITS_TOP) × (movable_of side floor (get_or rows place default) ≤ key_of side (get_or rows place default)) = key_bound side floor (get_or rows place default) (are_open place default inside) in omega (arith, bound.0)) in
-    let at_most : sum_by (above side floor CREDITS_TOP) rows ≤ length rows * 0 = sum_by-le (above side floor CREDITS_TOP) 0 rows each in
+pub sum_top : (side : Side) (rows : List Row) → All IsOpenRow rows → sum_by (above side CREDITS_TOP) rows ≡ 0
+sum_top side rows are_open =
+    let each : All (λ row. above side CREDITS_TOP row ≤ 0) rows = λ place default inside. (let bound : (key_of side (get_or rows place default) ≤ CREDITS_TOP) × (movable_of side (get_or rows place default) ≤ key_of side (get_or rows place default)) = key_bound side (get_or rows place default) (are_open place default inside) in omega (arith, bound.0)) in
+    let at_most : sum_by (above side CREDITS_TOP) rows ≤ length rows * 0 = sum_by-le (above side CREDITS_TOP) 0 rows each in
     omega arith
 
 -- down at the level 0 all was moved
-pub whole : (side : Side) (floor : ℕ) (rows : List Row) → All (IsOpenRow floor) rows → sum_by (above side floor 0) rows ≡ sum_by (movable_of side floor) rows
-whole side floor rows are_open = sum_whole side floor rows (λ place inside. (key_bound side floor (row_at rows place) (are_open place _ inside)).1)
+pub whole : (side : Side) (rows : List Row) → All IsOpenRow rows → sum_by (above side 0) rows ≡ sum_by (movable_of side) rows
+whole side rows are_open = sum_whole side rows (λ place inside. (key_bound side (row_at rows place) (are_open place _ inside)).1)

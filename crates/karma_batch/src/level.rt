@@ -6,7 +6,7 @@ ghost use Rattle.karma_batch.specs.Levels.{movable_of, above, over};
 
 use crate::guess::Seen;
 use crate::ramp::{MOST_MOVED, Ramp, Ramps, gather, sums_over};
-use crate::side::{Side, room};
+use crate::side::Side;
 use karma_rule::{CREDITS_TOP, MOST_FAIR, MOST_USERS, Row};
 
 /// The most rows of a quantum.
@@ -17,20 +17,6 @@ const MOST_ROWS: usize = MOST_USERS as usize;
 pub struct Level {
     pub level: u64,
     pub moved: u64,
-}
-
-/// How many slices the side can move.
-pub fn total_room(rows: &[Row], side: Side, floor: u64) -> u64
-    requires users { length rows.now ≤ MOST_USERS }
-    requires floor { floor ≤ MOST_FAIR }
-    requires rows_open { All (IsOpenRow floor) rows.now }
-    ensures { result ≡ sum_by (movable_of side floor) rows.now }
-{
-    let mut total = 0;
-    for row in rows {
-        total += room(row, side, floor);
-    }
-    total
 }
 
 /// The lowest level down to which the ramps move no more than `count` of all their slices.
@@ -68,14 +54,13 @@ fn search(ramps: &[Ramp], first: Ramps, total: u64, count: u64) -> Level
 }
 
 /// The lowest level down to which the side moves no more than `count` slices of the `total` that it can move.
-pub fn level_for(rows: &[Row], side: Side, floor: u64, total: u64, count: u64) -> Level
+pub fn level_for(rows: &[Row], side: Side, total: u64, count: u64) -> Level
     requires users { length rows.now ≤ MOST_USERS }
-    requires floor { floor ≤ MOST_FAIR }
-    requires rows_open { All (IsOpenRow floor) rows.now }
-    requires total { total ≡ sum_by (movable_of side floor) rows.now }
-    ensures moved { result.moved ≡ sum_by (above side floor result.level) rows.now }
+    requires rows_open { All IsOpenRow rows.now }
+    requires total { total ≡ sum_by (movable_of side) rows.now }
+    ensures moved { result.moved ≡ sum_by (above side result.level) rows.now }
     ensures fits { result.moved ≤ count }
-    ensures tight { 0 < result.level → count < sum_by (above side floor (result.level - 1)) rows.now }
+    ensures tight { 0 < result.level → count < sum_by (above side (result.level - 1)) rows.now }
 {
     if total <= count {
         return Level {
@@ -84,6 +69,6 @@ pub fn level_for(rows: &[Row], side: Side, floor: u64, total: u64, count: u64) -
         };
     }
     let mut ramps = [Ramp { from: 0, to: 0 }; MOST_ROWS];
-    let first = gather(rows, side, floor, &mut ramps);
+    let first = gather(rows, side, &mut ramps);
     search(&ramps[..first.count], first, total, count)
 }

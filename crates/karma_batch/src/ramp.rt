@@ -38,19 +38,19 @@ pub struct Sums {
 ///
 /// Each row's ramp is written, and the next one over it where the row can move nothing: so no branch depends on the
 /// rows, which a processor would guess wrong as often as not.
-pub fn gather(rows: &[Row], side: Side, floor: u64, ramps: &mut [Ramp]) -> Ramps
-    requires rows_open { All (IsOpenRow floor) rows.now }
+pub fn gather(rows: &[Row], side: Side, ramps: &mut [Ramp]) -> Ramps
+    requires rows_open { All IsOpenRow rows.now }
     requires enough { length rows.now ≤ length ramps.old }
     ensures within { result.count ≤ length rows.now }
     ensures moved { (level : ℕ) → sum_by (over level) (take result.count ramps.new)
-        ≡ sum_by (above side floor level) rows.now }
+        ≡ sum_by (above side level) rows.now }
 {
     let mut count = 0usize;
     let mut tops = 0u128;
     let mut lowest = CREDITS_TOP;
     let mut highest = 0;
     for row in rows {
-        let room = room(row, side, floor);
+        let room = room(row, side);
         let to = key(row, side);
         let from = to - room;
         ramps[count] = Ramp { from, to };

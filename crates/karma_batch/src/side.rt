@@ -24,19 +24,19 @@ pub fn key(row: &Row, side: Side) -> u64
 }
 
 /// How many slices the row can move: what a borrower wants and can pay, or what a donor has left of its floor.
-pub fn room(row: &Row, side: Side, floor: u64) -> u64
-    ensures { result ≡ movable_of side floor row.now }
+pub fn room(row: &Row, side: Side) -> u64
+    ensures { result ≡ movable_of side row.now }
 {
     match side {
         Side::Borrowers => row.demand.saturating_sub(row.given).min(row.credits),
-        Side::Donors => floor.saturating_sub(row.given),
+        Side::Donors => row.floor.saturating_sub(row.given),
     }
 }
 
 /// How many slices the row moves until its key is down at the level, or its room is used up.
-pub fn part_above(row: &Row, side: Side, floor: u64, level: u64) -> u64
+pub fn part_above(row: &Row, side: Side, level: u64) -> u64
     requires { row.now.credits ≤ CREDITS_TOP }
-    ensures { result ≡ above side floor level row.now }
+    ensures { result ≡ above side level row.now }
 {
-    room(row, side, floor).min(key(row, side).saturating_sub(level))
+    room(row, side).min(key(row, side).saturating_sub(level))
 }

@@ -24,39 +24,36 @@ fn move_by(row: &mut Row, side: Side, slices: u64)
 
 /// Moves the row's slices above the level, and one more where it is at the level then and `rest` isn't used up. The
 /// answer is how many of the rest it used.
-fn move_part(row: &mut Row, side: Side, floor: u64, level: u64, rest: u64) -> u64
-    requires floor { floor ≤ MOST_FAIR }
-    requires row_open { IsOpenRow floor row.old }
-    ensures moved { row.new ≡ moved_by side row.old (amount side floor level rest row.old) }
-    ensures extra { result ≡ extra side floor level rest row.old }
+fn move_part(row: &mut Row, side: Side, level: u64, rest: u64) -> u64
+    requires { IsOpenRow row.old }
+    ensures moved { row.new ≡ moved_by side row.old (amount side level rest row.old) }
+    ensures extra { result ≡ extra side level rest row.old }
 {
-    let part = part_above(row, side, floor, level);
-    let at_level = (part < room(row, side, floor)) & (key(row, side) - part == level);
+    let part = part_above(row, side, level);
+    let at_level = (part < room(row, side)) & (key(row, side) - part == level);
     let extra = u64::from((rest > 0) & at_level);
     move_by(row, side, part + extra);
     extra
 }
 
 /// Moves all slices above the level, and of the rest one for each row at the level, by number.
-fn spread_at(rows: &mut [Row], side: Side, floor: u64, level: u64, mut rest: u64)
-    requires floor { floor ≤ MOST_FAIR }
-    requires rows_open { All (IsOpenRow floor) rows.old }
-    ensures { rows.new ≡ all_moved side rows.old (amounts side floor level rest rows.old) }
+fn spread_at(rows: &mut [Row], side: Side, level: u64, mut rest: u64)
+    requires rows_open { All IsOpenRow rows.old }
+    ensures { rows.new ≡ all_moved side rows.old (amounts side level rest rows.old) }
 {
     for row in rows.iter_mut() {
-        rest -= move_part(row, side, floor, level, rest);
+        rest -= move_part(row, side, level, rest);
     }
 }
 
 /// Moves `count` of the `total` slices that a side can move, each by the row that comes first then.
-pub fn spread_count(rows: &mut [Row], side: Side, floor: u64, total: u64, count: u64)
+pub fn spread_count(rows: &mut [Row], side: Side, total: u64, count: u64)
     requires users { length rows.old ≤ MOST_USERS }
-    requires floor { floor ≤ MOST_FAIR }
-    requires rows_open { All (IsOpenRow floor) rows.old }
-    requires total { total ≡ sum_by (movable_of side floor) rows.old }
+    requires rows_open { All IsOpenRow rows.old }
+    requires total { total ≡ sum_by (movable_of side) rows.old }
     requires count { count ≤ total }
-    ensures { Spreads side floor count rows.old rows.new }
+    ensures { Spreads side count rows.old rows.new }
 {
-    let found = level_for(rows, side, floor, total, count);
-    spread_at(rows, side, floor, found.level, count - found.moved);
+    let found = level_for(rows, side, total, count);
+    spread_at(rows, side, found.level, count - found.moved);
 }

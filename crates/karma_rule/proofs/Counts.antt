@@ -7,7 +7,7 @@ use Rattle.karma_rule.proofs.FirstBest.{IsFirstBest-none}
 use Rattle.karma_rule.proofs.Changes.{sum_by-change_at_same}
 use Rattle.karma_rule.proofs.Loans.{fewer_credits, lendable_donated}
 use Rattle.karma_rule.proofs.OneLoan.{at, NeedsOne, quantum, nothing_left, step_by}
-use Rattle.karma_rule.proofs.InOrder.{Apart, Since, InOrder}
+use Rattle.karma_rule.proofs.InOrder.{Apart, Since, same_demand, InOrder}
 use Rattle.karma_rule.proofs.Ends.{Ended, closing_ended, closing_in_order, given_sum, closing_slices}
 use Rattle.karma_rule.proofs.Unique.{sum_by-le-two, sum_by-add, same_ending}
 
@@ -75,20 +75,20 @@ takes_at_most first user apart since = takes_by (cases_lt first.row.given user.r
     takes_by (inl more) (inl some) =
         let met : first.row.demand ≤ first.row.given = apart some in
         let capped : user.row.given ≤ user.row.demand = since.capped more in
-        omega (arith, since.same_demand)
+        omega (arith, same_demand since)
     takes_by (inl more) (inr some) =
         let capped : user.row.given ≤ user.row.demand = since.capped more in
-        omega (arith, since.same_demand, total)
+        omega (arith, same_demand since, total)
 
 takes_all : (first user : User) → (0 < first.left → first.row.demand ≤ first.row.given) → Since first user → (NeedsOne user → ⊥) → first.row.given + can_take first ≤ user.row.given
 takes_all first user apart since none = takes_by (cases_lt user.row.given user.row.demand) (cases_lt 0 user.row.credits) (cases_lt 0 first.left)
   where
     takes_by : (user.row.given < user.row.demand) ⊎ (user.row.demand ≤ user.row.given) → (0 < user.row.credits) ⊎ (user.row.credits ≤ 0) → (0 < first.left) ⊎ (first.left ≤ 0) → first.row.given + can_take first ≤ user.row.given
-    takes_by (inr compared) purse left = omega (arith, since.same_demand, since.gained)
+    takes_by (inr compared) purse left = omega (arith, same_demand since, since.gained)
     takes_by (inl compared) (inl purse) left = absurd (none (compared, purse))
     takes_by (inl compared) (inr purse) (inl left) =
         let met : first.row.demand ≤ first.row.given = apart left in
-        omega (arith, since.same_demand, since.gained)
+        omega (arith, same_demand since, since.gained)
     takes_by (inl compared) (inr purse) (inr left) = omega (arith, since.total, since.lent, since.gained)
 
 pub loans_made : Quantum → ℕ

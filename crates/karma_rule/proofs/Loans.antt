@@ -1,5 +1,5 @@
 -- What a loan does.
-use Rattle.std.proofs.Common.{◌≡◌, ℕ, zero, suc, ◌+◌, ◌-◌, ◌<◌, true, List, length, get_or, Some, None, refl, sym, ap, ◌∙◌, arith}
+use Rattle.std.proofs.Common.{◌≡◌, ℕ, zero, suc, ◌+◌, ◌-◌, ◌<◌, true, false, List, length, get_or, Some, None, refl, sym, ap, ◌∙◌, arith}
 use Rattle.std.specs.List.{sum_by}
 use Rattle.std.specs.Cmp.{IsStrictWeakOrder}
 use Rattle.std.proofs.lemmas.List.MinMax.{IsStrictWeakOrder-by_number, IsStrictWeakOrder-flip}
@@ -16,7 +16,7 @@ fewer_credits = IsStrictWeakOrder-by_number (λ (user : User). user.row.credits)
 
 -- nobody
 pub nobody : User
-nobody = record { row = record { demand = 0; credits = 0; given = 0 }; left = 0 }
+nobody = record { row = record { demand = 0; credits = 0; given = 0; fair = 0; floor = 0; present = false }; left = 0 }
 
 pub donor_left : (users : List User) (donor : ℕ) → next_donor users ≡ Some donor → (donor < length users) × (0 < (get_or users donor nobody).left)
 donor_left users donor found =

@@ -1,8 +1,7 @@
 -- Karma's rule of one quantum: how many slices each user is given, and what it pays or earns in credits.
-use Rattle.std.specs.Prelude.{ℕ, zero, suc, ◌+◌, ◌-◌, ◌*◌, min, Bool, not, ◌&&◌, nat_lt, List, [], ◌∷◌, length, map, Option, Some, None}
+use Rattle.std.specs.Prelude.{ℕ, zero, suc, ◌+◌, ◌-◌, min, Bool, not, ◌&&◌, nat_lt, if◌then◌else◌, List, [], ◌∷◌, map, Option, Some, None}
 use Rattle.std.specs.List.{position, list_all, sum_by}
 use Rattle.karma_rule.specs.declared.row.Row.{Row}
-use Rattle.karma_rule.specs.declared.row.Share.{Share}
 
 -- ---- users in the midst of a quantum
 -- a user: `left` counts the slices that it donates and nobody has borrowed yet
@@ -15,16 +14,24 @@ pub record Quantum : Type 0 where
   pub users : List User
   pub shared : ℕ
 
--- Each user gains as many credits as its fair share is above the floor. It is given what it demands up to the floor, and donates what it leaves of the floor.
-abbrev pub opened : Share → Row → User
-opened share row = record {
-  row = record row { credits = row.credits + (share.fair - share.floor); given = min row.demand share.floor };
-  left = share.floor - row.demand;
+-- what a user's fair share is above its floor
+abbrev pub surplus : Row → ℕ
+surplus row = row.fair - row.floor
+
+-- a number of a user that is present, and 0 for one that is away
+abbrev pub if_present : (Row → ℕ) → Row → ℕ
+if_present number row = if row.present then number row else 0
+
+-- A user that is present gains as many credits as its fair share is above the floor. It is given what it demands up to the floor, and donates what it leaves of the floor. One that is away is given nothing and has no credits. It donates nothing, so that it neither borrows nor lends.
+abbrev pub opened : Row → User
+opened row = record {
+  row = record row { credits = if_present (λ row. row.credits + surplus row) row; given = if_present (λ row. min row.demand row.floor) row };
+  left = if_present (λ row. row.floor - row.demand) row;
 }
 
--- What the fair shares are above the floors is shared.
-abbrev pub opening : Share → List Row → Quantum
-opening share rows = record { users = map (opened share) rows; shared = length rows * (share.fair - share.floor) }
+-- What the fair shares of those who are present are above their floors is shared.
+abbrev pub opening : List Row → Quantum
+opening rows = record { users = map opened rows; shared = sum_by (if_present surplus) rows }
 
 -- ---- who borrows, and who lends
 -- A borrower has unmet demand and at least one credit.
@@ -95,5 +102,5 @@ abbrev pub row_of : User → Row
 row_of user = user.row
 
 -- the rows after the quantum
-abbrev pub karma : List Row → Share → List Row
-karma rows share = map row_of (closing (opening share rows)).users
+abbrev pub karma : List Row → List Row
+karma rows = map row_of (closing (opening rows)).users

@@ -15,6 +15,6 @@ pub use limits::{
     CREDITS_BOUND, CREDITS_TOP, LEAST_SLICE, MOST_BYTES, MOST_CREDITS, MOST_DEMAND, MOST_FAIR,
     MOST_ROOM, MOST_SLICE, MOST_USERS,
 };
-pub use plain::{close_rows, open_rows, plain_quantum};
+pub use plain::{close_rows, open_row, plain_quantum};
 pub use row::{Row, Share};
 pub use shape::{BadShape, Shape};

@@ -1,40 +1,59 @@
 //! The rule's plain body: one loan after the other.
 
-ghost use Rattle.std.specs.Prelude.{◌≡◌, ◌+◌, ◌≤◌, length, map, All};
+ghost use Rattle.std.specs.Prelude.{◌≡◌, ◌+◌, ◌≤◌, length, map, sum_by, All, true, false};
 ghost use Rattle.std.specs.Bool.{OnTrue, OnFalse};
-ghost use Rattle.karma_rule.specs.Karma.{first_best, opened, next, lendable};
-ghost use Rattle.karma_rule.specs.Quanta.{CanMakeQuantum, MakesQuantum};
+ghost use Rattle.karma_rule.specs.Karma.{first_best, if_present, surplus, opened, next, lendable};
+ghost use Rattle.karma_rule.specs.Quanta.{IsReady, CanMakeQuantum, MakesQuantum};
 ghost use Rattle.karma_rule.specs.OpenRow.{user_of, quantum_of, closed, IsOpenRow, row_borrows, row_lends, has_more, has_fewer};
 
-use crate::limits::MOST_USERS;
-use crate::row::{Row, Share};
+use crate::limits::{MOST_FAIR, MOST_USERS};
+use crate::row::Row;
 
 /// Makes one quantum: the rows become those that Karma's rule gives, by one loan after the other.
 ///
 /// It takes no memory, and a time that grows with the count of loans.
-pub fn plain_quantum(rows: &mut [Row], share: Share)
+pub fn plain_quantum(rows: &mut [Row])
     requires users { length rows.old ≤ MOST_USERS }
-    requires ready { CanMakeQuantum rows.old share }
-    ensures { MakesQuantum rows.old rows.new share }
+    requires ready { CanMakeQuantum rows.old }
+    ensures { MakesQuantum rows.old rows.new }
 {
-    open_rows(rows, share);
-    let mut shared = rows.len() as u64 * (share.fair - share.floor);
-    'loans: while make_loan(rows, share.floor, &mut shared) {}
+    let mut shared = open_rows(rows);
+    'loans: while make_loan(rows, &mut shared) {}
     close_rows(rows);
 }
 
-/// Opens a quantum: each user gains its credits, and is given what it demands up to the floor.
+/// Opens a quantum: each user gains its credits, and is given what it demands up to the floor. The answer is how many
+/// slices are shared.
 ///
 /// Until `close_rows`, a row's `given` counts the slices of its floor that are in use, lent ones too.
-pub fn open_rows(rows: &mut [Row], share: Share)
-    requires { CanMakeQuantum rows.old share }
-    ensures users { map (user_of share.floor) rows.new ≡ map (opened share) rows.old }
-    ensures rows_open { All (IsOpenRow share.floor) rows.new }
+fn open_rows(rows: &mut [Row]) -> u64
+    requires users { length rows.old ≤ MOST_USERS }
+    requires ready { CanMakeQuantum rows.old }
+    ensures users { map user_of rows.new ≡ map opened rows.old }
+    ensures shared { result ≡ sum_by (if_present surplus) rows.old }
+    ensures rows_open { All IsOpenRow rows.new }
 {
+    let mut shared = 0;
     for row in rows.iter_mut() {
-        row.credits += share.fair - share.floor;
-        row.given = row.demand.min(share.floor);
+        shared += open_row(row);
     }
+    shared
+}
+
+/// Opens a quantum for one user, and says how many of its slices are shared.
+///
+/// Who is away has no share and no credits, so that nothing needs to ask who is present.
+pub fn open_row(row: &mut Row) -> u64
+    requires { IsReady row.old }
+    ensures user { user_of row.new ≡ opened row.old }
+    ensures shared { result ≡ if_present surplus row.old }
+    ensures few { result ≤ MOST_FAIR }
+    ensures row_open { IsOpenRow row.new }
+{
+    let surplus = row.fair - row.floor;
+    row.credits += surplus;
+    row.given = row.demand.min(row.floor);
+    surplus
 }
 
 /// Closes a quantum: what a donor lent was not given to it.
@@ -47,20 +66,20 @@ pub fn close_rows(rows: &mut [Row])
 }
 
 /// Makes the rule's next loan, and says whether there was one to make.
-fn make_loan(rows: &mut [Row], floor: u64, shared: &mut u64) -> bool
-    requires { All (IsOpenRow floor) rows.old }
-    ensures next { quantum_of floor rows.new shared.new ≡ next (quantum_of floor rows.old shared.old) }
+fn make_loan(rows: &mut [Row], shared: &mut u64) -> bool
+    requires { All IsOpenRow rows.old }
+    ensures next { quantum_of rows.new shared.new ≡ next (quantum_of rows.old shared.old) }
     ensures made { OnTrue result
-        (lendable (quantum_of floor rows.old shared.old)
-        ≡ lendable (quantum_of floor rows.new shared.new) + 1) }
+        (lendable (quantum_of rows.old shared.old)
+        ≡ lendable (quantum_of rows.new shared.new) + 1) }
     ensures ended { OnFalse result
-        (quantum_of floor rows.new shared.new ≡ quantum_of floor rows.old shared.old) }
-    ensures rows_open { All (IsOpenRow floor) rows.new }
+        (quantum_of rows.new shared.new ≡ quantum_of rows.old shared.old) }
+    ensures rows_open { All IsOpenRow rows.new }
 {
     let Some(borrower) = next_borrower(rows) else {
         return false;
     };
-    if let Some(donor) = next_donor(rows, floor) {
+    if let Some(donor) = next_donor(rows) {
         let row = &mut rows[borrower];
         row.credits -= 1;
         row.given += 1;
@@ -100,12 +119,12 @@ fn next_borrower(rows: &[Row]) -> Option<usize>
 }
 
 /// The first of the users with the fewest credits among those with a donated slice left.
-fn next_donor(rows: &[Row], floor: u64) -> Option<usize>
-    ensures { result ≡ first_best (row_lends floor) has_fewer rows.now }
+fn next_donor(rows: &[Row]) -> Option<usize>
+    ensures { result ≡ first_best row_lends has_fewer rows.now }
 {
     let mut poorest = None;
     for (i, row) in rows.iter().enumerate() {
-        if row.given < floor {
+        if row.given < row.floor {
             match poorest {
                 None => poorest = Some(i),
                 Some(found) => {
@@ -122,22 +141,35 @@ fn next_donor(rows: &[Row], floor: u64) -> Option<usize>
 #[cfg(test)]
 mod tests {
     use super::*;
+    use crate::row::Share;
 
-    fn row(demand: u32, credits: u32, given: u32) -> Row
-        ensures { result ≡ record { demand = demand; credits = credits; given = given } }
+    /// Each user's demand with its credits before and after, and what it is given.
+    type Users = [(u32, u32, u32, u32); 3];
+
+    fn row(demand: u32, credits: u32, given: u32, share: Share) -> Row
+        ensures { result ≡ record {
+          demand = demand;
+          credits = credits;
+          given = given;
+          fair = share.fair;
+          floor = share.floor;
+          present = true;
+        } }
     {
         Row {
             demand: u64::from(demand),
             credits: u64::from(credits),
             given: u64::from(given),
+            fair: share.fair,
+            floor: share.floor,
+            present: true,
         }
     }
 
     #[test]
     fn worked_quanta(rt: HostRuntime) {
-        // The floor, what the fair share is above it, and each user's demand with its credits before and after, and
-        // what it is given.
-        let table: [(u8, u8, [(u32, u32, u32, u32); 3]); 6] = [
+        // The floor, what the fair share is above it, and the users.
+        let table: [(u8, u8, Users); 6] = [
             (1, 1, [(3, 5, 4, 3), (2, 5, 5, 2), (1, 5, 6, 1)]),
             (1, 1, [(3, 4, 3, 3), (0, 5, 7, 0), (0, 6, 8, 0)]),
             (1, 1, [(0, 3, 5, 0), (4, 7, 6, 3), (4, 8, 7, 3)]),
@@ -147,27 +179,70 @@ mod tests {
         ];
         for (floor, above, users) in table {
             let [first, second, third] = users;
-            let mut rows = [
-                row(first.0, first.1, 0),
-                row(second.0, second.1, 0),
-                row(third.0, third.1, 0),
-            ];
             let floor = u64::from(floor);
-            plain_quantum(
-                &mut rows,
-                Share {
-                    fair: floor + u64::from(above),
-                    floor,
-                },
-            );
+            let share = Share {
+                fair: floor + u64::from(above),
+                floor,
+            };
+            let mut rows = [
+                row(first.0, first.1, 0, share),
+                row(second.0, second.1, 0, share),
+                row(third.0, third.1, 0, share),
+            ];
+            plain_quantum(&mut rows);
             assert_eq!(rt;
                 rows,
                 [
-                    row(first.0, first.2, first.3),
-                    row(second.0, second.2, second.3),
-                    row(third.0, third.2, third.3),
+                    row(first.0, first.2, first.3, share),
+                    row(second.0, second.2, second.3, share),
+                    row(third.0, third.2, third.3, share),
                 ]
             );
         }
+    }
+
+    fn away(demand: u64) -> Row
+        ensures { result ≡ record {
+          demand = demand;
+          credits = 0;
+          given = 0;
+          fair = 0;
+          floor = 0;
+          present = false;
+        } }
+    {
+        Row {
+            demand,
+            credits: 0,
+            given: 0,
+            fair: 0,
+            floor: 0,
+            present: false,
+        }
+    }
+
+    #[test]
+    fn shares_of_their_own_and_a_user_away(rt: HostRuntime) {
+        let shares = [
+            Share { fair: 5, floor: 4 },
+            Share { fair: 3, floor: 0 },
+            Share { fair: 4, floor: 4 },
+        ];
+        let mut rows = [
+            row(9, 3, 0, shares[0]),
+            row(4, 7, 0, shares[1]),
+            away(8),
+            row(0, 1, 0, shares[2]),
+        ];
+        plain_quantum(&mut rows);
+        assert_eq!(rt;
+            rows,
+            [
+                row(9, 0, 8, shares[0]),
+                row(4, 6, 4, shares[1]),
+                away(8),
+                row(0, 5, 0, shares[2]),
+            ]
+        );
     }
 }

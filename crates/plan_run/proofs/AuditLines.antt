@@ -1,5 +1,5 @@
 -- What one line of a log brings.
-use Rattle.std.proofs.Common.{◌≡◌, ℕ, zero, suc, ◌+◌, ◌<◌, ◌≤◌, ◌^◌, Bool, true, false, cond, ◌&&◌, eqb, nat_le, List, [], ◌∷◌, length, map, take, drop, get_or, Option, Some, None, decimal, MatchOption, refl, sym, ◌∙◌, ap, arith, add-one}
+use Rattle.std.proofs.Common.{◌≡◌, ℕ, zero, suc, ◌+◌, ◌<◌, ◌≤◌, ◌^◌, Bool, true, false, cond, ◌&&◌, eqb, nat_le, if◌then◌else◌, List, [], ◌∷◌, length, map, take, drop, get_or, Option, Some, None, decimal, MatchOption, refl, sym, ◌∙◌, ap, arith, add-one}
 use Rattle.std.specs.Bool.{Decides}
 use Rattle.std.specs.List.{All, list_all}
 use Rattle.std.specs.Str.{bytes_eq}
@@ -11,17 +11,22 @@ use Rattle.far_io.specs.Decimals.{value_of}
 use Rattle.far_io.specs.Words.{words_of}
 use Rattle.far_io.proofs.Decimals.{value_of-decimal}
 use Rattle.karma_rule.specs.declared.row.Row.{Row}
+use Rattle.karma_rule.specs.declared.row.Share.{Share}
 use Rattle.karma_rule.specs.Karma.{change_at}
 use Rattle.demand_book.specs.Book.{BookView, demanding}
 use Rattle.quantum_text.specs.declared.line_kind.LineKind.{LineKind}
 use Rattle.quantum_text.specs.declared.line_kind.LineKind.TheVariants.{Quantum, Demand, Slices, Credits}
-use Rattle.quantum_text.specs.LineKind.{limit_of, count_of, numbers_of}
+use Rattle.quantum_text.specs.LineKind.{limit_of, count_of, numbers_of, is_first}
 use Rattle.quantum_text.specs.Block.{line_text, IsLine, IsNoLine}
+use Rattle.quantum_text.specs.Shares.{shares_text}
 use Rattle.quantum_text.proofs.Words.{line_words, numbers_fit}
 use Rattle.run_end.specs.declared.TheConstants.{MOST_LINE}
 use Rattle.run_end.specs.declared.status.Status.TheVariants.{NotKarma}
 use Rattle.plan_run.specs.Ending.{Ending, ends_at}
-use Rattle.plan_run.specs.AuditText.{with_demands, numbers_of_line, due_numbers, is_first, wanted, compared, AuditState, audit_state, not_karma, audit_one, bad_ending, read_as, judged, IsMade, IsAt, next_kind, audit_end, audit_over}
+use Rattle.plan_run.specs.SharesLine.{roster_of_line}
+use Rattle.plan_run.specs.AuditText.{with_demands, with_seats, numbers_of_line, due_numbers, due_roster, may_be_shares, wanted, compared, AuditState, audit_state, not_karma, audit_one, bad_ending, read_as, taken_as, judged, IsMade, IsAt, next_kind, audit_end, audit_over}
+use Rattle.plan_run.proofs.Choices.{no_choice}
+use Rattle.plan_run.proofs.SharesLines.{other_line}
 
 -- lists of numbers that are the same at each place
 pub same_at_each : (xs ys : List ℕ) → length xs ≡ length ys → ((k : ℕ) → k < length xs → get_or xs k 0 ≡ get_or ys k 0) → xs ≡ ys
@@ -85,11 +90,11 @@ module _ (book : BookView) (kind : LineKind) (line : List ℕ) where
   pub due_left : (spent : Bool) → spent ≡ (is_first kind && nat_le (2 ^ 28) book.quanta) → spent ≡ false → due_numbers book kind line ≡ numbers_of_line kind book.shape.users line
   due_left spent is_spent so = cond-false _ _ _ (sym is_spent ∙ so)
 
-pub wanted_is : (kind : LineKind) (book : BookView) (quantum : ℕ) (rows : List Row) → (kind ≡ Demand → ⊥) → quantum ≡ book.quanta → IsMade kind rows book.rows → numbers_of kind (record { quantum = quantum; rows = rows }) ≡ wanted kind book
-wanted_is Quantum book quantum rows other same_quantum made = ap (λ n. n ∷ []) same_quantum
-wanted_is Demand book quantum rows other same_quantum made = absurd (other refl)
-wanted_is Slices book quantum rows other same_quantum made = ap (map (λ (row : Row). row.given)) made
-wanted_is Credits book quantum rows other same_quantum made = ap (map (λ (row : Row). row.credits)) made
+pub wanted_is : (kind : LineKind) (book : BookView) (quantum : ℕ) (rows : List Row) (changed : Bool) → (kind ≡ Demand → ⊥) → quantum ≡ book.quanta → IsMade kind rows book.rows → numbers_of kind (record { quantum = quantum; rows = rows; changed = changed }) ≡ wanted kind book
+wanted_is Quantum book quantum rows changed other same_quantum made = ap (λ n. n ∷ []) same_quantum
+wanted_is Demand book quantum rows changed other same_quantum made = absurd (other refl)
+wanted_is Slices book quantum rows changed other same_quantum made = ap (map (λ (row : Row). row.given)) made
+wanted_is Credits book quantum rows changed other same_quantum made = ap (map (λ (row : Row). row.credits)) made
 
 pub made_next : (kind : LineKind) (rows made : List Row) → (kind ≡ Demand → ⊥) → IsMade kind rows made → IsMade (next_kind kind) rows made
 made_next Quantum rows made other is_made = tt
@@ -97,17 +102,28 @@ made_next Demand rows made other is_made = absurd (other refl)
 made_next Slices rows made other is_made = is_made
 made_next Credits rows made other is_made = tt
 
-pub at_next : (kind : LineKind) (lines quanta : ℕ) → (kind ≡ Demand → ⊥) → (kind ≡ Quantum → quanta < 2 ^ 28) → IsAt kind lines quanta → IsAt (next_kind kind) (lines + 1) quanta
-at_next Quantum lines quanta other more at = (omega arith, more refl)
-at_next Demand lines quanta other more at = absurd (other refl)
-at_next Slices lines quanta other more at = omega arith
-at_next Credits lines quanta other more at = omega arith
+pub at_next : (kind : LineKind) (shares_read : Bool) (lines quanta : ℕ) → (kind ≡ Demand → ⊥) → (kind ≡ Quantum → quanta < 2 ^ 28) → IsAt kind shares_read lines quanta → IsAt (next_kind kind) false (lines + 1) quanta
+at_next Quantum shares_read lines quanta other more at = (omega arith, more refl)
+at_next Demand shares_read lines quanta other more at = absurd (other refl)
+at_next Slices shares_read lines quanta other more at = omega arith
+at_next Credits shares_read lines quanta other more at = omega arith
 
-pub at_bound : (kind : LineKind) (lines quanta : ℕ) → quanta ≤ 2 ^ 28 → IsAt kind lines quanta → lines < 2 ^ 31
-at_bound Quantum lines quanta most at = omega arith
-at_bound Demand lines quanta most at = omega arith
-at_bound Slices lines quanta most at = omega arith
-at_bound Credits lines quanta most at = omega arith
+two_at_most : (shares_read : Bool) → (if shares_read then 2 else 1) ≤ 2
+two_at_most true = omega arith
+two_at_most false = omega arith
+
+pub at_bound : (kind : LineKind) (shares_read : Bool) (lines quanta : ℕ) → quanta ≤ 2 ^ 28 → IsAt kind shares_read lines quanta → lines < 2 ^ 31
+at_bound Quantum shares_read lines quanta most at = omega arith
+at_bound Demand shares_read lines quanta most at = omega (arith, two_at_most shares_read, at.0)
+at_bound Slices shares_read lines quanta most at = omega arith
+at_bound Credits shares_read lines quanta most at = omega arith
+
+-- after the demands, and after a line of shares
+pub at_slices : (shares_read : Bool) (lines quanta : ℕ) → IsAt Demand shares_read lines quanta → IsAt Slices false (lines + 1) (quanta + 1)
+at_slices shares_read lines quanta at = omega (arith, two_at_most shares_read, at.0)
+
+pub at_demand : (lines quanta : ℕ) → IsAt Demand false lines quanta → IsAt Demand true (lines + 1) quanta
+at_demand lines quanta at = (omega (arith, at.0), at.1)
 
 pub quantum_left : (kind : LineKind) (quanta : ℕ) (spent : Bool) → spent ≡ (is_first kind && nat_le (2 ^ 28) quanta) → spent ≡ false → kind ≡ Quantum → quanta < 2 ^ 28
 quantum_left Quantum quanta spent is_spent left same = leb-false (2 ^ 28) quanta (sym is_spent ∙ left)
@@ -121,35 +137,79 @@ compared_one Demand other state line numbers others = absurd (other refl)
 compared_one Slices other state line numbers others = refl
 compared_one Credits other state line numbers others = refl
 
-pub differs : (kind : LineKind) (book : BookView) (lines : ℕ) (line numbers : List ℕ) → bytes_eq numbers (wanted kind book) ≡ false → (others : AuditState → Ending)
-    → compared kind (audit_state book kind lines) line numbers others ≡ record { text = not_karma (lines + 1) kind (wanted kind book) line; end = ends_at NotKarma (lines + 1) }
-differs kind book lines line numbers other others = cond-false _ _ _ other
+pub differs : (kind : LineKind) (state : AuditState) (line numbers : List ℕ) → bytes_eq numbers (wanted kind state.book) ≡ false → (others : AuditState → Ending)
+    → compared kind state line numbers others ≡ record { text = not_karma (state.lines + 1) kind (wanted kind state.book) line; end = ends_at NotKarma (state.lines + 1) }
+differs kind state line numbers other others = cond-false _ _ _ other
 
--- no line of the kind that is due, and one that is
-pub one_bad : (book : BookView) (kind : LineKind) (lines : ℕ) (line : List ℕ) → due_numbers book kind line ≡ None → (others : AuditState → Ending)
-    → audit_one (audit_state book kind lines) line others ≡ bad_ending book kind lines
-one_bad book kind lines line none others = ap (λ due. read_as (audit_state book kind lines) line due others) none
+-- ---- a line of shares, or of numbers
+pub shares_need_demand : (kind : LineKind) (shares_read : Bool) → may_be_shares kind shares_read ≡ true → (kind ≡ Demand) × (shares_read ≡ false)
+shares_need_demand Quantum shares_read may = absurd (cc)
+shares_need_demand Demand true may = absurd (cc)
+shares_need_demand Demand false may = (refl, refl)
+shares_need_demand Slices shares_read may = absurd (cc)
+shares_need_demand Credits shares_read may = absurd (cc)
 
-pub one_good : (book : BookView) (kind : LineKind) (lines : ℕ) (line numbers : List ℕ) → due_numbers book kind line ≡ Some numbers → (others : AuditState → Ending)
-    → audit_one (audit_state book kind lines) line others ≡ judged kind (audit_state book kind lines) line numbers others
-one_good book kind lines line numbers some others = ap (λ due. read_as (audit_state book kind lines) line due others) some
+pub shares_at_demand : (kind : LineKind) (shares_read : Bool) → (kind ≡ Demand → ⊥) → may_be_shares kind shares_read ≡ false
+shares_at_demand Quantum shares_read other = refl
+shares_at_demand Demand shares_read other = absurd (other refl)
+shares_at_demand Slices shares_read other = refl
+shares_at_demand Credits shares_read other = refl
 
--- a quantum is left where a line was good at a block's beginning, and in a block always
-pub due_bad : (due : Option (List ℕ)) (good : Bool) (numbers : List ℕ) → MatchOption due (good ≡ false) (λ read. (good ≡ true) × (numbers ≡ read)) → good ≡ false → due ≡ None
-due_bad None good numbers told bad = refl
-due_bad (Some read) good numbers told bad = absurd (true≢false (sym told.0 ∙ bad))
+module _ (book : BookView) (kind : LineKind) (shares_read : Bool) (line : List ℕ) where
+  pub no_shares_here : may_be_shares kind shares_read ≡ false → due_roster book kind shares_read line ≡ None
+  no_shares_here not_here = cond-false _ _ _ not_here
+
+  pub shares_here : may_be_shares kind shares_read ≡ true → due_roster book kind shares_read line ≡ roster_of_line book.shape book.roster line
+  shares_here here = cond-true _ _ _ here
+
+  -- no line of the kind that is due, and one that is
+  pub one_bad : (lines : ℕ) → due_roster book kind shares_read line ≡ None → due_numbers book kind line ≡ None → (others : AuditState → Ending)
+      → audit_one (audit_state book kind shares_read lines) line others ≡ bad_ending book kind lines
+  one_bad lines no_roster none others =
+      let state = audit_state book kind shares_read lines in
+      ap (λ roster. taken_as state line roster others) no_roster ∙ ap (λ due. read_as state line due others) none
+
+  pub one_good : (lines : ℕ) (numbers : List ℕ) → due_roster book kind shares_read line ≡ None → due_numbers book kind line ≡ Some numbers → (others : AuditState → Ending)
+      → audit_one (audit_state book kind shares_read lines) line others ≡ judged kind (audit_state book kind shares_read lines) line numbers others
+  one_good lines numbers no_roster some others =
+      let state = audit_state book kind shares_read lines in
+      ap (λ roster. taken_as state line roster others) no_roster ∙ ap (λ due. read_as state line due others) some
+
+  pub one_roster : (lines : ℕ) (roster : List (Option Share)) → due_roster book kind shares_read line ≡ Some roster → (others : AuditState → Ending)
+      → audit_one (audit_state book kind shares_read lines) line others ≡ others (audit_state (with_seats book roster) Demand true (lines + 1))
+  one_roster lines roster some others = ap (λ due. taken_as (audit_state book kind shares_read lines) line due others) some
+
+-- a line of demands tells no roster
+other_letter : (first other : ℕ) → first ≡ 100 → other ≡ 115 → first ≡ other → ⊥
+other_letter first other d s same = omega arith
+
+demand_word : (demands : List ℕ) (roster : List (Option Share)) → line_text Demand demands ≡ shares_text roster → ⊥
+unfolding line_text shares_text
+demand_word demands roster same = other_letter (get_or (line_text Demand demands) 0 0) (get_or (shares_text roster) 0 0) refl refl (ap (λ (line : List ℕ). get_or line 0 0) same)
+
+pub demands_are_no_shares : (book : BookView) (shares_read : Bool) (demands : List ℕ) → due_roster book Demand shares_read (line_text Demand demands) ≡ None
+demands_are_no_shares book true demands = refl
+demands_are_no_shares book false demands = other_line book.shape book.roster (line_text Demand demands) (demand_word demands)
+
+-- what was told of a line that is read
+pub due_bad : {A : Type 0} (due : Option A) (good : Bool) (Is : A → Type 0) → MatchOption due (good ≡ false) (λ read. (good ≡ true) × Is read) → good ≡ false → due ≡ None
+due_bad None good Is told bad = refl
+due_bad (Some read) good Is told bad = absurd (true≢false (sym told.0 ∙ bad))
 
 pub due_good : (due : Option (List ℕ)) (good : Bool) (numbers : List ℕ) → MatchOption due (good ≡ false) (λ read. (good ≡ true) × (numbers ≡ read)) → good ≡ true → due ≡ Some numbers
 due_good None good numbers told is_good = absurd (true≢false (sym is_good ∙ told))
 due_good (Some read) good numbers told is_good = ap Some (sym told.1)
 
-no_choice : (b : Bool) → let none : Option (List ℕ) = None in cond b none none ≡ none
-no_choice true = refl
-no_choice false = refl
+pub due_some : {A : Type 0} (due : Option A) (good : Bool) (Is : A → Type 0) → MatchOption due (good ≡ false) (λ read. (good ≡ true) × Is read) → good ≡ true → (read : A) × (due ≡ Some read) × Is read
+due_some None good Is told is_good = absurd (true≢false (sym is_good ∙ told))
+due_some (Some read) good Is told is_good = (read, refl, told.1)
 
--- a line that is too long is none of the kind that is due
+-- a line that is too long is none of the kind that is due, and tells no roster
 pub long_due : (book : BookView) (kind : LineKind) (line : List ℕ) → MOST_LINE < length line → due_numbers book kind line ≡ None
 long_due book kind line long = ap (λ n. cond (is_first kind && nat_le (2 ^ 28) book.quanta) None n) (cond-false _ _ _ (lt-leb (length line) MOST_LINE long)) ∙ no_choice (is_first kind && nat_le (2 ^ 28) book.quanta)
+
+pub long_roster : (book : BookView) (kind : LineKind) (shares_read : Bool) (line : List ℕ) → MOST_LINE < length line → due_roster book kind shares_read line ≡ None
+long_roster book kind shares_read line long = ap (λ r. cond (may_be_shares kind shares_read) r None) (cond-false _ _ _ (lt-leb (length line) MOST_LINE long)) ∙ no_choice (may_be_shares kind shares_read)
 
 pub audit_line_is : (state : AuditState) (line : List ℕ) (lines : List (List ℕ)) → audit_end state (line ∷ lines) ≡ audit_one state line (λ next. audit_end next lines)
 unfolding audit_end

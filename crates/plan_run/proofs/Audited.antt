@@ -1,5 +1,5 @@
 -- What a run of `audit` came to.
-use Rattle.std.proofs.Common.{◌≡◌, ℕ, ◌+◌, ◌*◌, ◌-◌, ◌<◌, ◌≤◌, ◌^◌, ◌&&◌, Bool, true, false, cond, nat_le, List, [], ◌∷◌, ◌++◌, length, map, replicate, Option, Some, None, refl, sym, ◌∙◌, ap, subst, inl, inr, lit<, arith}
+use Rattle.std.proofs.Common.{◌≡◌, ℕ, ◌+◌, ◌-◌, ◌<◌, ◌≤◌, ◌^◌, ◌&&◌, Bool, true, false, cond, nat_le, List, [], ◌++◌, length, map, replicate, Option, Some, None, refl, sym, ◌∙◌, ap, subst, inl, inr, lit<, arith}
 use Rattle.std.specs.Prelude.{Contains}
 use Rattle.std.specs.List.{All}
 use Rattle.std.specs.Str.{bytes_eq}
@@ -11,13 +11,13 @@ use Rattle.far_io.specs.Lines.{lines_of}
 use Rattle.far_io.proofs.Adds.{adds_nothing}
 use Rattle.far_io.proofs.Faults.{follows_itself}
 use Rattle.karma_rule.specs.declared.row.Row.{Row}
+use Rattle.karma_rule.specs.declared.row.Share.{Share}
 use Rattle.karma_rule.specs.declared.shape.Shape.{Shape}
 use Rattle.karma_rule.specs.Limits.{IsPlan}
 use Rattle.demand_book.specs.Book.{BookView, opening_book}
-use Rattle.demand_book.specs.Inside.{IsBook}
+use Rattle.quantum_text.specs.LineKind.{is_first}
 use Rattle.quantum_text.specs.declared.line_kind.LineKind.{LineKind}
 use Rattle.quantum_text.specs.declared.line_kind.LineKind.TheVariants.{Quantum, Demand, Slices, Credits}
-use Rattle.quantum_text.specs.Block.{line_text}
 use Rattle.run_end.specs.Status.{IsWhole}
 use Rattle.run_end.specs.Why.{End}
 use Rattle.run_end.specs.declared.status.Status.{Status}
@@ -26,14 +26,16 @@ use Rattle.line_run.specs.Chunks.{Chunk, lines_taken}
 use Rattle.line_run.specs.Runs.{Reading, reading, EndsAfter, RunsTo}
 use Rattle.plan_run.specs.declared.audit.Audit.{Audit}
 use Rattle.plan_run.specs.Ending.{Ending, ends_as, ends_at}
-use Rattle.plan_run.specs.AuditText.{AuditState, audit_state, audit_one, audit_over, audit_end, audited, bad_ending, judged, read_as, due_numbers, wanted, is_first, not_karma, after_demands}
-use Rattle.plan_run.specs.Auditing.{auditing, audit_rules, IsFit}
+use Rattle.plan_run.specs.AuditText.{AuditState, audit_state, audit_one, audit_over, audit_end, audited, bad_ending, judged, read_as, taken_as, due_numbers, due_roster, wanted, not_karma, after_demands}
+use Rattle.plan_run.specs.Auditing.{IsLeft, auditing, audit_rules, IsFit}
 use Rattle.plan_run.specs.KarmaLog.{IsKarmaLog}
 use Rattle.plan_run.specs.Writes.{WritesText, EndsAs, WritesPrefix, Seen}
 use Rattle.plan_run.specs.Runs.{audit_statuses, IsAudited}
-use Rattle.plan_run.proofs.AuditLines.{audit_line_is, audit_over_is, one_good}
+use Rattle.plan_run.proofs.AuditLines.{audit_line_is, audit_over_is}
 use Rattle.plan_run.proofs.Endings.{path_is, fits_last, whole_text, whole_ends, whole_part, fault_part, break_part}
-use Rattle.plan_run.proofs.KarmaLogs.{accepts, accepted, passes, due_good, its_laws, inside_next, slices_within, credits_within, most_credits, opens}
+use Rattle.plan_run.proofs.KarmaLogs.{accepts, credits_line, slices_lines, demand_lines}
+use Rattle.plan_run.proofs.AuditBooks.{its_credits, opens}
+use Rattle.plan_run.proofs.LogsPass.{accepted, passes, due_good, demands_pass}
 
 abbrev IsAuditEnd : Status → Type 0
 IsAuditEnd Done = Unit {0}
@@ -72,8 +74,12 @@ module _ (P : Ending → Type 0) (after : Ending) (state : AuditState) (line : L
   by_due None = bad
   by_due (Some numbers) = by_kind state.kind refl numbers
 
+  by_roster : (roster : Option (List (Option Share))) → P (taken_as state line roster (λ _. after))
+  by_roster None = by_due (due_numbers state.book state.kind line)
+  by_roster (Some roster) = next
+
   one_case : P (audit_one state line (λ _. after))
-  one_case = by_due (due_numbers state.book state.kind line)
+  one_case = by_roster (due_roster state.book state.kind state.shares_read line)
 
 one_end : (P : Status → Type 0) (state : AuditState) (line : List ℕ) (after : Ending) → P BadLine → P Spent → P NotKarma → P after.end.status → P (audit_one state line (λ _. after)).end.status
 one_end P state line after bad spent differs next =
@@ -97,61 +103,44 @@ done_over read chunks last end text (inr over) done = over.2
 
 -- ---- each log that was read so far can be completed
 
-abbrev credits_line : BookView → List (List ℕ)
-credits_line book = line_text Credits (wanted Credits book) ∷ []
-
-with_credits : (book : BookView) (lines : ℕ) → IsBook book.shape book.quanta book.rows → (audit_end (audit_state book Credits lines) (credits_line book)).end.status ≡ Done
+with_credits : (book : BookView) (changes shares_read : Bool) (lines : ℕ) → IsLeft book changes → (audit_end (audit_state book Credits shares_read lines) (credits_line book)).end.status ≡ Done
 unfolding audit_end
-with_credits book lines inside =
+with_credits book changes shares_read lines inside =
     let many : length (wanted Credits book) ≡ book.shape.users = length-map book.rows (λ (row : Row). row.credits) ∙ inside.users in
-    let within = credits_within (book.shape.credits + book.quanta * book.shape.share.fair) book.rows (most_credits book.shape book.quanta inside.plan inside.quanta) inside.credits in
+    let within = its_credits book changes inside in
     let small : book.shape.users ≤ 1024 = inside.plan.users.1 in
-    ap (λ (e : Ending). e.end.status) (passes book Credits lines (wanted Credits book) (λ s. audit_end s []) (λ e. absurd (cc)) refl (due_good book Credits (wanted Credits book) (omega arith) many within refl))
+    ap (λ (e : Ending). e.end.status) (passes book Credits shares_read lines (wanted Credits book) (λ s. audit_end s []) (λ e. absurd (cc)) refl (due_good book Credits (wanted Credits book) (omega arith) many within refl))
 
-with_slices : (book : BookView) (lines : ℕ) → IsBook book.shape book.quanta book.rows → All (λ n. n ≤ 2 ^ 64 - 1) (map (λ (row : Row). row.given) book.rows)
-    → (audit_end (audit_state book Slices lines) (line_text Slices (wanted Slices book) ∷ credits_line book)).end.status ≡ Done
+with_slices : (book : BookView) (changes shares_read : Bool) (lines : ℕ) → IsLeft book changes → All (λ n. n ≤ 2 ^ 64 - 1) (map (λ (row : Row). row.given) book.rows)
+    → (audit_end (audit_state book Slices shares_read lines) (slices_lines book)).end.status ≡ Done
 unfolding audit_end
-with_slices book lines inside within =
+with_slices book changes shares_read lines inside within =
     let many : length (wanted Slices book) ≡ book.shape.users = length-map book.rows (λ (row : Row). row.given) ∙ inside.users in
     let small : book.shape.users ≤ 1024 = inside.plan.users.1 in
-    ap (λ (e : Ending). e.end.status) (passes book Slices lines (wanted Slices book) (λ s. audit_end s (credits_line book)) (λ e. absurd (cc)) refl (due_good book Slices (wanted Slices book) (omega arith) many within refl))
-    ∙ with_credits book (lines + 1) inside
-
-module _ (book : BookView) (inside : IsBook book.shape book.quanta book.rows) (more : book.quanta < 2 ^ 28) (demands : List ℕ) (low : All (λ demand. demand ≤ 2 ^ 42) demands) where
-  inside_after : IsBook (after_demands book demands).shape (after_demands book demands).quanta (after_demands book demands).rows
-  inside_after = inside_next book demands inside low more
-
-  given_after : All (λ n. n ≤ 2 ^ 64 - 1) (map (λ (row : Row). row.given) (after_demands book demands).rows)
-  given_after = let next : IsBook book.shape (book.quanta + 1) (after_demands book demands).rows = inside_next book demands inside low more in
-      slices_within (after_demands book demands).rows next.demands (its_laws book demands inside low more).wanted
+    ap (λ (e : Ending). e.end.status) (passes book Slices shares_read lines (wanted Slices book) (λ s. audit_end s (credits_line book)) (λ e. absurd (cc)) refl (due_good book Slices (wanted Slices book) (omega arith) many within refl))
+    ∙ with_credits book changes false (lines + 1) inside
 
 abbrev no_demands : BookView → List ℕ
 no_demands book = replicate book.shape.users 0
 
-with_demand : (book : BookView) (lines : ℕ) → IsBook book.shape book.quanta book.rows → book.quanta < 2 ^ 28
-    → (audit_end (audit_state book Demand lines) (line_text Demand (no_demands book) ∷ line_text Slices (wanted Slices (after_demands book (no_demands book))) ∷ credits_line (after_demands book (no_demands book)))).end.status ≡ Done
-unfolding audit_end
-with_demand book lines inside more =
+with_demand : (book : BookView) (changes shares_read : Bool) (lines : ℕ) → IsLeft book changes → book.quanta < 2 ^ 28 → (audit_end (audit_state book Demand shares_read lines) (demand_lines book (no_demands book))).end.status ≡ Done
+with_demand book changes shares_read lines inside more =
     let demands = no_demands book in
-    let next = after_demands book demands in
-    let many : length demands ≡ book.shape.users = length-replicate book.shape.users 0 in
     let low : All (λ demand. demand ≤ 2 ^ 42) demands = All-replicate (λ demand. demand ≤ 2 ^ 42) book.shape.users 0 (omega arith) in
-    let small : book.shape.users ≤ 1024 = inside.plan.users.1 in
-    ap (λ (e : Ending). e.end.status) (one_good book Demand lines (line_text Demand demands) demands (due_good book Demand demands (omega arith) many low refl)
-    (λ s. audit_end s (line_text Slices (wanted Slices next) ∷ credits_line next)))
-    ∙ with_slices next (lines + 1) (inside_after book inside more demands low) (given_after book inside more demands low)
+    ap (λ (e : Ending). e.end.status) (demands_pass book demands changes inside more (length-replicate book.shape.users 0) low shares_read lines [] ∙ audit_over_is (audit_state (after_demands book demands) Quantum false (lines + 1 + 1 + 1)))
 
-completed : (kind : LineKind) (book : BookView) (lines : ℕ) → IsFit (audit_state book kind lines) → (more : List (List ℕ)) × ((audit_end (audit_state book kind lines) more).end.status ≡ Done)
-completed Quantum book lines fit = ([], ap (λ (e : Ending). e.end.status) (audit_over_is (audit_state book Quantum lines)))
-completed Demand book lines fit = (_, with_demand book lines fit.inside (fit.left refl))
-completed Slices book lines fit = (_, with_slices book lines fit.inside fit.given)
-completed Credits book lines fit = (_, with_credits book lines fit.inside)
+completed : (kind : LineKind) (book : BookView) (shares_read : Bool) (lines : ℕ) → IsFit (audit_state book kind shares_read lines) → (more : List (List ℕ)) × ((audit_end (audit_state book kind shares_read lines) more).end.status ≡ Done)
+completed Quantum book shares_read lines fit = ([], ap (λ (e : Ending). e.end.status) (audit_over_is (audit_state book Quantum shares_read lines)))
+completed Demand book shares_read lines fit = (_, with_demand book shares_read shares_read lines fit.inside (fit.left refl))
+completed Slices book shares_read lines fit = (_, with_slices book shares_read shares_read lines fit.inside fit.given)
+completed Credits book shares_read lines fit = (_, with_credits book shares_read shares_read lines fit.inside)
 
 -- an opening book fits
-pub fit_opening : (shape : Shape) → IsPlan shape → IsFit (audit_state (opening_book shape) Quantum 0)
+pub fit_opening : (shape : Shape) → IsPlan shape → IsFit (audit_state (opening_book shape) Quantum false 0)
 fit_opening shape plan = record {
   inside = opens shape plan;
   given = All-map (λ n. n ≤ 2 ^ 64 - 1) (λ (row : Row). row.given) (opening_book shape).rows (All-replicate (λ (row : Row). row.given ≤ 2 ^ 64 - 1) shape.users _ (omega arith));
+  shares = λ told. absurd (cc);
   left = λ is. absurd (cc);
 }
 
@@ -166,7 +155,7 @@ listed_by Spent known = (5, lit< tt, refl)
 listed_by NotKarma known = (6, lit< tt, refl)
 
 module _ {O : Type 0} (read : Reading) (took : O → O → List ℕ → Type 0) (faults : O → Faults) (before now : O) (shape : Shape) (first : Audit) (end : End)
-    (run : RunsTo audit_rules read took faults before now first end) (opens_as : auditing first ≡ audit_state (opening_book shape) Quantum 0) where
+    (run : RunsTo audit_rules read took faults before now first end) (opens_as : auditing first ≡ audit_state (opening_book shape) Quantum false 0) where
   pub never_short : end.status ≡ NoMemory → ⊥
   never_short is = let short = run.no_memory is in subst IsAuditEnd is (known_end read short.chunks short.last end short.text short.ends)
 
@@ -189,12 +178,12 @@ module _ {O : Type 0} (read : Reading) (took : O → O → List ℕ → Type 0) 
       let fault = run.read_fault is in
       let ended = fault.ended bytes told in
       let fit = fits_last (Unit {0}) auditing IsFit audit_one audit_over audit_end audit_over_is audit_line_is first fault.last fault.chunks fault.path (subst IsFit (sym opens_as) (fit_opening shape plan)) in
-      let more = completed fault.last.kind fault.last.book fault.last.number fit in
+      let more = completed fault.last.kind fault.last.book fault.last.shares_read fault.last.number fit in
       let whole = path_is (Unit {0}) auditing IsFit audit_one audit_over audit_end audit_over_is audit_line_is first fault.last fault.chunks fault.path more.0 in
       let done : (audited shape (lines_taken fault.chunks ++ more.0)).end.status ≡ Done =
       ap (λ (s : AuditState). (audit_end s (lines_taken fault.chunks ++ more.0)).end.status) (sym opens_as) ∙ ap (λ (e : Ending). e.end.status) whole ∙ more.1 in (
         record { lines = lines_taken fault.chunks; rest = ended.0; left_is = ended.1; read = ended.2 },
-        (more.0, accepts shape (lines_taken fault.chunks ++ more.0) done),
+        (more.0, accepts shape (lines_taken fault.chunks ++ more.0) plan done),
       )
 
   pub audited_to : IsPlan shape → IsAudited read took faults before now shape end
@@ -206,7 +195,7 @@ module _ {O : Type 0} (read : Reading) (took : O → O → List ℕ → Type 0) 
     part = subst (λ (s : AuditState). WritesPrefix took before now read.input (audit_end s)) opens_as (part_by end.status refl);
     seen = seen_at plan;
     unsent = λ is. (run.read_fault is).unsent tt;
-    accepts = λ is bytes told. accepts shape (lines_of bytes) (ap (λ (e : End). e.status) (ends_as_audited (subst IsWhole (sym is) tt) bytes told) ∙ is);
+    accepts = λ is bytes told. accepts shape (lines_of bytes) plan (ap (λ (e : End). e.status) (ends_as_audited (subst IsWhole (sym is) tt) bytes told) ∙ is);
     accepted = λ whole bytes told log. ap (λ (e : End). e.status) (sym (ends_as_audited whole bytes told)) ∙ accepted shape (lines_of bytes) plan log;
     at_end = λ is. let run_end = run.whole (subst IsWhole (sym is) tt) in done_over read run_end.chunks run_end.last end run_end.text run_end.ends is;
     read_fault = λ is. (run.read_fault is).rose;

@@ -2,6 +2,8 @@
 pub mod Ending
 -- what `plan` writes for its lines
 pub mod PlanText
+-- what `audit` reads of a line of shares
+pub mod SharesLine
 -- what `audit` writes for its lines
 pub mod AuditText
 -- the rules of a plan

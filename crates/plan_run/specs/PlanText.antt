@@ -1,5 +1,5 @@
 -- What `plan` writes for the lines of its input, and how it ends.
-use Rattle.std.specs.Prelude.{ℕ, ◌+◌, nat_le, ◌&&◌, if◌then◌else◌, List, [], ◌∷◌, length, Some, None, decimal}
+use Rattle.std.specs.Prelude.{ℕ, false, ◌+◌, nat_le, ◌&&◌, if◌then◌else◌, List, [], ◌∷◌, length, Some, None, decimal}
 use Rattle.std.specs.declared.option.Option.{Option}
 use Rattle.std.specs.Option.{option_and_then, option_map}
 use Rattle.std.specs.Str.{bytes_eq}
@@ -38,7 +38,7 @@ line_end book None others = record { text = bad_line (book.quanta + 1); end = en
 line_end book (Some rows) others =
     if nat_le QUANTA book.quanta
     then record { text = spent_line; end = ends_as Spent }
-    else (let next = ticked (record book { rows = rows }) in after_text (report_text (record { quantum = book.quanta; rows = next.rows })) (others next))
+    else (let next = ticked (record book { rows = rows }) in after_text (report_text (record { quantum = book.quanta; rows = next.rows; changed = false })) (others next))
 
 -- what comes of a line, over what comes of the lines after it
 abbrev pub plan_one : BookView → List ℕ → (BookView → Ending) → Ending

@@ -1,18 +1,19 @@
 //! `audit`: quantum blocks, judged by the rule.
 
-ghost use Rattle.std.specs.Prelude.{◌≡◌, ◌≢◌, ◌+◌, ◌-◌, ◌<◌, ◌≤◌, ◌^◌, ◌&&◌, ◌⊎◌, nat_le, length, All, Ok, None, true, false, IfOk, MatchOption};
-ghost use Rattle.std.specs.Bool.{OnTrue};
+ghost use Rattle.std.specs.Prelude.{◌≡◌, ◌≢◌, ◌+◌, ◌-◌, ◌<◌, ◌≤◌, ◌^◌, ◌&&◌, ◌⊎◌, nat_le, List, [], length, map, All, Some, None, true, false, IfOk, IfSome, IfNone, MatchOption};
+ghost use Rattle.std.specs.Bool.{OnTrue, OnFalse};
 ghost use Rattle.std.specs.Str.{bytes_eq};
 ghost use Rattle.karma_rule.specs.declared.limits.TheConstants.{MOST_DEMAND};
 ghost use Rattle.karma_rule.specs.Limits.{IsPlan};
+ghost use Rattle.demand_book.specs.Roster.{seat_of};
 ghost use Rattle.quantum_text.specs.declared.line_kind.LineKind.TheVariants.{Quantum, Demand};
-ghost use Rattle.quantum_text.specs.LineKind.{numbers_of, limit_of};
+ghost use Rattle.quantum_text.specs.LineKind.{numbers_of, limit_of, is_first};
 ghost use Rattle.run_end.specs.declared.TheConstants.{MOST_LINE};
 ghost use Rattle.run_end.specs.Status.{code_of};
 ghost use Rattle.run_end.specs.Why.{status_of, end_of, EndsWith};
 ghost use Rattle.run_end.specs.LastLines.{last_line};
 ghost use Rattle.line_run.specs.Runs.{reading};
-ghost use Rattle.plan_run.specs.AuditText.{next_kind, is_first, after_demands, audit_state, bad_ending, due_numbers, wanted, IsAt, IsMade};
+ghost use Rattle.plan_run.specs.AuditText.{next_kind, may_be_shares, after_demands, audit_state, bad_ending, due_numbers, due_roster, wanted, IsAt, IsMade};
 ghost use Rattle.plan_run.specs.Runs.{IsAudited};
 
 use crate::audit_last::{put_not_karma, put_ok};
@@ -21,7 +22,7 @@ use demand_book::{Book, QUANTA, Report};
 use far_io::{LineBuf, Sink, Source, WriteFault, WriteRoom, split_word};
 use karma_rule::Shape;
 use line_run::{LineTaker, run_lines};
-use quantum_text::{LineKind, parse_block_line};
+use quantum_text::{LineKind, parse_block_line, parse_shares_line};
 use run_end::{DueLine, LineFault, MOST_LINE, Status, Why, put_last_line};
 use std::alloc::{AllocError, Global};
 
@@ -59,6 +60,7 @@ fn take_demands(book: &mut Book, read: &Report, wanted: &mut Report)
     ensures book { book.new ≡ after_demands book.old (numbers_of Demand read.now) }
     ensures wanted { wanted.new.rows ≡ book.new.rows }
     ensures fits { length wanted.new.rows ≡ book.new.shape.users }
+    ensures seats { map seat_of wanted.new.rows ≡ book.new.roster }
 {
     for user in 0..book.users() {
         let _counted = book.report(user, read.rows.items()[user as usize].demand);
@@ -73,6 +75,16 @@ fn is_spent(book: &Book, kind: LineKind) -> bool
     match kind {
         LineKind::Quantum => book.quanta() >= QUANTA,
         LineKind::Demand | LineKind::Slices | LineKind::Credits => false,
+    }
+}
+
+// Whether a line of shares may stand before the line that is due.
+fn shares_may_stand(kind: LineKind, shares_read: bool) -> bool
+    ensures { result ≡ may_be_shares kind shares_read }
+{
+    match kind {
+        LineKind::Demand => !shares_read,
+        LineKind::Quantum | LineKind::Slices | LineKind::Credits => false,
     }
 }
 
@@ -132,12 +144,13 @@ fn block_fault(kind: LineKind, users: u32, line: &[u8]) -> LineFault {
     numbers_fault(line, 2, numbers + 1, kind.limit())
 }
 
-/// The book of an audit, the kind of line that is due, how many lines were read, and the reports of what was read and
-/// of what is wanted.
+/// The book of an audit, the kind of line that is due, whether the block's line of shares was read before it, how many
+/// lines were read, and the reports of what was read and of what is wanted.
 #[derive(Drop)]
 pub struct Audit {
     book: Book,
     kind: LineKind,
+    shares_read: bool,
     number: u64,
     read: Report,
     wanted: Report,
@@ -145,30 +158,37 @@ pub struct Audit {
 
 impl Audit {
     ghost use Rattle.demand_book.specs.Book.{opening_book};
-    ghost use Rattle.plan_run.specs.Auditing.{IsAuditing};
+    ghost use Rattle.line_run.specs.Chunks.{chunk_of};
+    ghost use Rattle.line_run.specs.LineRules.{IsOwnEnd};
+    ghost use Rattle.plan_run.specs.Auditing.{IsAuditing, auditing, audit_rules, audit_last};
 
     // An audit that opens with the shape's credits.
     fn new(alloc: Global, shape: Shape) -> Result<Self, AllocError>
         requires { IsPlan shape }
-        ensures state { IfOk result (λ audit.
-            audit_state audit.book audit.kind audit.number ≡ audit_state (opening_book shape) Quantum 0) }
+        ensures state { IfOk result (λ audit. auditing audit ≡ audit_state (opening_book shape) Quantum false 0) }
         ensures ready { IfOk result IsAuditing }
     {
         Ok(Audit {
             book: Book::new(alloc, shape)?,
             kind: LineKind::Quantum,
+            shares_read: false,
             number: 0,
             read: Report::new(alloc, shape.users)?,
-            wanted: Report::new(alloc, shape.users)?,
+            wanted: Report::opening(alloc, shape)?,
         })
     }
 
     // Goes on to the next line.
     fn go_on(&mut self)
         requires { self.old.number < 2 ^ 32 }
-        ensures { self.new ≡ record self.old { kind = next_kind self.old.kind; number = self.old.number + 1 } }
+        ensures { self.new ≡ record self.old {
+          kind = next_kind self.old.kind;
+          shares_read = false;
+          number = self.old.number + 1;
+        } }
     {
         self.kind = kind_after(self.kind);
+        self.shares_read = false;
         self.number += 1;
     }
 
@@ -185,6 +205,61 @@ impl Audit {
         Why::BadLine {
             number: self.number + 1,
             fault,
+        }
+    }
+
+    // Takes a line of shares, where one may stand, and says whether this is one. Its roster is then the next quantum's.
+    fn takes_shares(&mut self, line: &[u8]) -> bool
+        requires auditing { IsAuditing self.old }
+        requires fits { length line.now ≤ MOST_LINE }
+        ensures takes { OnTrue result (audit_rules.takes self.old (chunk_of line.now []) self.new) }
+        ensures none { OnFalse result (due_roster self.old.book self.old.kind self.old.shares_read line.now ≡ None) }
+        ensures kept { OnFalse result (self.new ≡ self.old) }
+        ensures auditing { OnTrue result (IsAuditing self.new) }
+        ensures ends { OnTrue result (self.old.number < self.new.number) }
+    {
+        if !shares_may_stand(self.kind, self.shares_read) {
+            return false;
+        }
+        if !parse_shares_line(self.book.shape(), line, &mut self.wanted) {
+            return false;
+        }
+        self.book.take_roster(self.wanted.rows.items());
+        self.shares_read = true;
+        self.number += 1;
+        true
+    }
+
+    // Takes a line of numbers, or says why the run ends at it.
+    fn take_numbers(&mut self, line: &[u8]) -> Option<Why>
+        requires auditing { IsAuditing self.old }
+        requires fits { length line.now ≤ MOST_LINE }
+        requires no_shares { due_roster self.old.book self.old.kind self.old.shares_read line.now ≡ None }
+        ensures takes { IfNone result (audit_rules.takes self.old (chunk_of line.now []) self.new) }
+        ensures stops { IfSome result (λ why. IsOwnEnd (end_of why).status
+            × audit_rules.stops self.old line.now (end_of why) (audit_last self.new line.now why)) }
+        ensures auditing { IsAuditing self.new }
+        ensures ends { IfNone result (self.old.number < self.new.number) }
+    {
+        if !read_due(&self.book, self.kind, line, &mut self.read) {
+            let fault = block_fault(self.kind, self.book.users(), line);
+            return Some(self.bad_line(fault));
+        }
+        match self.kind {
+            LineKind::Demand => {
+                take_demands(&mut self.book, &self.read, &mut self.wanted);
+                self.go_on();
+                None
+            }
+            _ => {
+                if !is_wanted(&self.book, self.kind, &self.read, &mut self.wanted) {
+                    return Some(Why::NotKarma {
+                        number: self.number + 1,
+                    });
+                }
+                self.go_on();
+                None
+            }
         }
     }
 }
@@ -205,26 +280,10 @@ impl LineTaker for Audit {
         line: &[u8],
         _sink: &mut O,
     ) -> Result<Option<Why>, WriteFault> {
-        if !read_due(&self.book, self.kind, line, &mut self.read) {
-            let fault = block_fault(self.kind, self.book.users(), line);
-            return Ok(Some(self.bad_line(fault)));
+        if self.takes_shares(line) {
+            return Ok(None);
         }
-        match self.kind {
-            LineKind::Demand => {
-                take_demands(&mut self.book, &self.read, &mut self.wanted);
-                self.go_on();
-                Ok(None)
-            }
-            _ => {
-                if !is_wanted(&self.book, self.kind, &self.read, &mut self.wanted) {
-                    return Ok(Some(Why::NotKarma {
-                        number: self.number + 1,
-                    }));
-                }
-                self.go_on();
-                Ok(None)
-            }
-        }
+        Ok(self.take_numbers(line))
     }
 
     fn at_long_line(&self) -> Why {

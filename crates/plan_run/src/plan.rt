@@ -1,8 +1,9 @@
 //! `plan`: lines of demands to quantum blocks.
 
-ghost use Rattle.std.specs.Prelude.{◌≡◌, ◌≢◌, ◌-◌, ◌+◌, ◌<◌, ◌≤◌, ◌^◌, length, Ok, Err, Some, None, true, false, IfOk, OnErr, OnOk, MatchOption, IfSome};
+ghost use Rattle.std.specs.Prelude.{◌≡◌, ◌≢◌, ◌-◌, ◌+◌, ◌<◌, ◌≤◌, ◌^◌, ◌↔◌, length, map, Ok, Err, Some, None, true, false, IfOk, IsErr, OnErr, OnOk, MatchOption, IfSome};
 ghost use Rattle.far_io.specs.Words.{words_of};
 ghost use Rattle.demand_book.specs.declared.book.TheConstants.{QUANTA};
+ghost use Rattle.demand_book.specs.Roster.{seat_of};
 ghost use Rattle.karma_rule.specs.Limits.{IsPlan};
 ghost use Rattle.run_end.specs.Why.{status_of, end_of, EndsWith};
 ghost use Rattle.run_end.specs.LastLines.{last_line};
@@ -12,7 +13,7 @@ ghost use Rattle.plan_run.specs.PlanText.{rows_of_words};
 ghost use Rattle.plan_run.specs.Runs.{IsPlanned};
 
 use crate::line_fault::numbers_fault;
-use demand_book::{Book, Report};
+use demand_book::{Book, QuantaSpent, Report};
 use far_io::{LineBuf, Sink, Source, WriteFault, WriteRoom, parse_decimal, split_word};
 use karma_rule::{MOST_DEMAND, Shape};
 use line_run::{LineTaker, run_lines};
@@ -25,6 +26,8 @@ use std::alloc::{AllocError, Global};
 fn report_words(book: &mut Book, line: &[u8]) -> bool
     ensures shape { book.new.shape ≡ book.old.shape }
     ensures quanta { book.new.quanta ≡ book.old.quanta }
+    ensures seats { map seat_of book.new.rows ≡ map seat_of book.old.rows }
+    ensures roster { book.new.roster ≡ book.old.roster }
     ensures rows { MatchOption (rows_of_words (words_of line.now) book.old.rows) (result ≡ false)
         (λ rows. (result ≡ true) × (book.new ≡ record book.old { rows = rows })) }
 {
@@ -53,18 +56,35 @@ pub struct Plan {
 }
 
 impl Plan {
-    ghost use Rattle.demand_book.specs.Book.{opening_book};
+    ghost use Rattle.demand_book.specs.Book.{opening_book, ticked};
+    ghost use Rattle.plan_run.specs.Planning.{IsPlanning};
 
     // A plan that opens with the shape's credits.
     fn new(alloc: Global, shape: Shape) -> Result<Self, AllocError>
         requires { IsPlan shape }
         ensures book { IfOk result (λ plan. plan.book ≡ opening_book shape) }
-        ensures rows { IfOk result (λ plan. length plan.report.rows ≡ plan.book.shape.users) }
+        ensures holds { IfOk result IsPlanning }
     {
         Ok(Plan {
             book: Book::new(alloc, shape)?,
             report: Report::new(alloc, shape.users)?,
         })
+    }
+
+    // Makes the quantum of the demands that stand, and tells it.
+    fn tick(&mut self) -> Result<(), QuantaSpent>
+        requires { IsPlanning self.old }
+        ensures spent { IsErr result ↔ (QUANTA ≤ self.old.book.quanta) }
+        ensures kept { OnErr result (self.new ≡ self.old) }
+        ensures made { OnOk result (self.new.book ≡ ticked self.old.book) }
+        ensures told { OnOk result (self.new.report ≡ record {
+          quantum = self.old.book.quanta;
+          rows = self.new.book.rows;
+          changed = false;
+        }) }
+        ensures holds { OnOk result (IsPlanning self.new) }
+    {
+        self.book.tick(&mut self.report)
     }
 
     // Why the run ends at the next line, which has this fault.
@@ -79,11 +99,11 @@ impl Plan {
 }
 
 impl LineTaker for Plan {
-    ghost use Rattle.plan_run.specs.Planning.{plan_rules};
+    ghost use Rattle.plan_run.specs.Planning.{plan_rules, IsPlanning};
 
     ghost rules = { plan_rules };
 
-    ghost holds = { λ plan. length plan.report.rows ≡ plan.book.shape.users };
+    ghost holds = { IsPlanning };
 
     ghost lines_left = { λ plan. QUANTA - plan.book.quanta };
 
@@ -94,7 +114,7 @@ impl LineTaker for Plan {
             let users = self.book.users() as u64;
             return Ok(Some(self.bad_line(numbers_fault(line, 1, users, MOST_DEMAND))));
         }
-        if self.book.tick(&mut self.report).is_err() {
+        if self.tick().is_err() {
             return Ok(Some(Why::Spent));
         }
         write_report(&self.report, sink)?;

@@ -1,149 +1,196 @@
 -- The lines of a block, read one after another.
-use Rattle.std.proofs.Common.{◌≡◌, ◌≢◌, ℕ, zero, suc, ◌+◌, ◌-◌, ◌^◌, ◌<◌, ◌≤◌, min, List, [], ◌∷◌, ◌++◌, length, take, drop, get_or, Option, Err, refl, sym, ◌∙◌, ap, subst, take-append-drop, arith}
+use Rattle.std.proofs.Common.{◌≡◌, ◌≢◌, ℕ, ◌+◌, ◌-◌, ◌^◌, ◌≤◌, if◌then◌else◌, min, Bool, true, false, List, [], ◌∷◌, ◌++◌, length, map, Option, Err, refl, sym, ◌∙◌, ap, subst, inl, inr, arith}
 use Rattle.std.specs.Prelude.{All}
-use Rattle.std.proofs.lemmas.List.{take_more, drop_more, length-take}
-use Rattle.std.proofs.lemmas.List.Elements.{All-nil, All-from_recursion, All-head, All-tail, All-more, All-rest}
+use Rattle.std.proofs.lemmas.List.{length-map}
+use Rattle.std.proofs.lemmas.List.Elements.{All-nil, All-cons, All-head, All-tail, All-push, All-weaker}
 use Rattle.far_io.specs.Faults.{one_more}
 use Rattle.far_io.specs.Lines.{line_of, after_line}
+use Rattle.karma_rule.specs.declared.row.Row.{Row}
+use Rattle.karma_rule.specs.declared.row.Share.{Share}
+use Rattle.karma_rule.specs.declared.shape.Shape.{Shape}
 use Rattle.demand_book.specs.declared.report.Report.{Report}
+use Rattle.demand_book.specs.Roster.{seat_of}
 use Rattle.quantum_text.specs.declared.line_kind.LineKind.{LineKind}
 use Rattle.quantum_text.specs.declared.line_kind.LineKind.TheVariants.{Quantum, Demand, Slices, Credits}
 use Rattle.quantum_text.specs.declared.read.ReportTextEnd.{ReportTextEnd}
 use Rattle.quantum_text.specs.declared.read.ReportTextEnd.TheVariants.{End, BadLine, ReadFault}
-use Rattle.quantum_text.specs.LineKind.{block_kinds, limit_of, numbers_of}
-use Rattle.quantum_text.specs.Block.{IsLine}
-use Rattle.quantum_text.specs.Reading.{BeginsWith, IsBadNext, ReadsLines, StopsAt, ReadsBlock, ReadsKind, ReadsNext}
+use Rattle.quantum_text.specs.LineKind.{limit_of, numbers_of, untold}
+use Rattle.quantum_text.specs.Shares.{roster_of, IsNewRoster, IsSharesLine, IsSeated}
+use Rattle.quantum_text.specs.Block.{BlockLine, Roster, Numbers, IsLine, IsNoLine, IsWithin, IsLineOf, IsNoLineOf}
+use Rattle.quantum_text.specs.Reading.{BeginsWith, MayFollow, IsPast, IsSame, tells_roster, ReadsLines, StopsAt, ReadsTo, ReadsOne, ReadsNone}
 
--- the kind at a place of a block
-abbrev pub kind_at : ℕ → LineKind
-kind_at i = get_or block_kinds i Quantum
+-- ---- rosters by the rows' shares
+pub seats_same : (xs ys : List Row) → map untold xs ≡ map untold ys → map seat_of xs ≡ map seat_of ys
+seats_same [] [] same = refl
+seats_same [] (y ∷ ys) same = cc
+seats_same (x ∷ xs) [] same = cc
+seats_same (x ∷ xs) (y ∷ ys) same =
+    let head : untold x ≡ untold y = cc in
+    let tails : map untold xs ≡ map untold ys = cc in
+    let seat : seat_of x ≡ seat_of y = ap seat_of head in
+    ap (λ s. s ∷ map seat_of xs) seat ∙ ap (λ ss. seat_of y ∷ ss) (seats_same xs ys tails)
 
--- each kind stands once
-others_before : (i : ℕ) → i < 4 → All (λ kind. kind ≢ kind_at i) (take i block_kinds)
-others_before zero here = All-nil (λ kind. kind ≢ Quantum)
-others_before (suc zero) here = All-from_recursion (λ kind. kind ≢ Demand) (Quantum ∷ []) (λ e. cc, tt)
-others_before (suc (suc zero)) here = All-from_recursion (λ kind. kind ≢ Slices) (Quantum ∷ Demand ∷ []) (λ e. cc, (λ e. cc, tt))
-others_before (suc (suc (suc zero))) here = All-from_recursion (λ kind. kind ≢ Credits) (Quantum ∷ Demand ∷ Slices ∷ []) (λ e. cc, (λ e. cc, (λ e. cc, tt)))
-others_before (suc (suc (suc (suc i)))) here = absurd (omega arith)
+seated_same : (xs ys : List Row) → map untold xs ≡ map untold ys → All IsSeated ys → All IsSeated xs
+seated_same [] ys same seated = All-nil IsSeated
+seated_same (x ∷ xs) [] same seated = cc
+seated_same (x ∷ xs) (y ∷ ys) same seated =
+    let head : untold y ≡ untold x = cc in
+    let tails : map untold xs ≡ map untold ys = cc in
+    let first : IsSeated x = subst IsSeated head (All-head IsSeated y ys seated) in
+    All-cons IsSeated x xs first (seated_same xs ys tails (All-tail IsSeated y ys seated))
 
-others_after : (i : ℕ) → i < 4 → All (λ kind. kind ≢ kind_at i) (drop (i + 1) block_kinds)
-others_after zero here = All-from_recursion (λ kind. kind ≢ Quantum) (Demand ∷ Slices ∷ Credits ∷ []) (λ e. cc, (λ e. cc, (λ e. cc, tt)))
-others_after (suc zero) here = All-from_recursion (λ kind. kind ≢ Demand) (Slices ∷ Credits ∷ []) (λ e. cc, (λ e. cc, tt))
-others_after (suc (suc zero)) here = All-from_recursion (λ kind. kind ≢ Slices) (Credits ∷ []) (λ e. cc, tt)
-others_after (suc (suc (suc zero))) here = All-nil (λ kind. kind ≢ Credits)
-others_after (suc (suc (suc (suc i)))) here = absurd (omega arith)
+pub users_of : (report : Report) → length (roster_of report) ≡ length report.rows
+users_of report = length-map report.rows seat_of
 
-first_only : (i : ℕ) → i < 4 → kind_at i ≡ Quantum → i ≡ 0
-first_only zero here first = refl
-first_only (suc zero) here first = cc
-first_only (suc (suc zero)) here first = cc
-first_only (suc (suc (suc zero))) here first = cc
-first_only (suc (suc (suc (suc i)))) here first = absurd (omega arith)
+-- ---- what two reports have for a line
+abbrev pub AllSame : List BlockLine → Report → Report → Type 0
+AllSame lines new old = All (λ line. IsSame line new old) lines
+
+pub unchanged_same : (line : BlockLine) (report : Report) → IsSame line (record report { changed = false }) report
+unchanged_same Roster report = refl
+unchanged_same (Numbers Quantum) report = refl
+unchanged_same (Numbers Demand) report = refl
+unchanged_same (Numbers Slices) report = refl
+unchanged_same (Numbers Credits) report = refl
+
+same_on : (line : BlockLine) (a b c : Report) → IsSame line c b → IsSame line b a → IsSame line c a
+same_on Roster a b c second first = second ∙ first
+same_on (Numbers kind) a b c second first = second ∙ first
+
+within_moves : (shape : Shape) (before : List (Option Share)) (old new : Report) (line : BlockLine) → IsSame line new old → IsWithin shape before old line → IsWithin shape before new line
+within_moves shape before old new Roster same within =
+    (subst (IsNewRoster shape before) (sym (seats_same new.rows old.rows same)) within.0, seated_same new.rows old.rows same within.1)
+within_moves shape before old new (Numbers kind) same within = subst (All (λ number. number ≤ limit_of kind)) (sym same) within
 
 same_line : (kind : LineKind) (users many : ℕ) (line xs ys : List ℕ) → many ≡ users → ys ≡ xs → IsLine kind users line xs → IsLine kind many line ys
 same_line kind users many line xs ys same_users same_numbers is_line = rw (same_users, same_numbers) is_line
 
-begins_more : (limit : ℕ) (report : Report) (kinds : List LineKind) (kind : LineKind) (bytes middle rest : List ℕ) → BeginsWith limit report kinds bytes middle
-    → BeginsWith limit report (kind ∷ []) middle rest → BeginsWith limit report (kinds ++ kind ∷ []) bytes rest
-begins_more limit report [] kind bytes middle rest first second = subst (λ b. BeginsWith limit report (kind ∷ []) b rest) first second
-begins_more limit report (k ∷ ks) kind bytes middle rest first second =
-    (first.0, (first.1.0, begins_more limit report ks kind (after_line bytes) middle rest first.1.1 second))
+line_moves : (shape : Shape) (before : List (Option Share)) (old new : Report) (line : BlockLine) (bytes : List ℕ) → length new.rows ≡ length old.rows → IsSame line new old
+    → IsLineOf shape before old line bytes → IsLineOf shape before new line bytes
+line_moves shape before old new Roster bytes users same is_line = subst (IsSharesLine shape before bytes) (sym (seats_same new.rows old.rows same)) is_line
+line_moves shape before old new (Numbers kind) bytes users same is_line = same_line kind (length old.rows) (length new.rows) bytes (numbers_of kind old) (numbers_of kind new) users same is_line
 
-begins_other : (limit : ℕ) (old new : Report) (kinds : List LineKind) (bytes rest : List ℕ) → length new.rows ≡ length old.rows
-    → All (λ kind. numbers_of kind new ≡ numbers_of kind old) kinds → BeginsWith limit old kinds bytes rest → BeginsWith limit new kinds bytes rest
-begins_other limit old new [] bytes rest users same begins = begins
-begins_other limit old new (k ∷ ks) bytes rest users same begins = (
+begins_moves : (limit : ℕ) (shape : Shape) (before : List (Option Share)) (old new : Report) (lines : List BlockLine) (bytes rest : List ℕ) → length new.rows ≡ length old.rows
+    → AllSame lines new old → BeginsWith limit shape before old lines bytes rest → BeginsWith limit shape before new lines bytes rest
+begins_moves limit shape before old new [] bytes rest users same begins = begins
+begins_moves limit shape before old new (line ∷ lines) bytes rest users same begins = (
   begins.0,
   (
-    same_line k (length old.rows) (length new.rows) (line_of bytes) (numbers_of k old) (numbers_of k new) users (All-head (λ kind. numbers_of kind new ≡ numbers_of kind old) k ks same) begins.1.0,
-    begins_other limit old new ks (after_line bytes) rest users (All-tail (λ kind. numbers_of kind new ≡ numbers_of kind old) k ks same) begins.1.1,
+    line_moves shape before old new line (line_of bytes) users (All-head (λ l. IsSame l new old) line lines same) begins.1.0,
+    begins_moves limit shape before old new lines (after_line bytes) rest users (All-tail (λ l. IsSame l new old) line lines same) begins.1.1,
   ),
 )
 
-module _ (limit : ℕ) (before middle : Option (List ℕ)) (old report : Report) (i : ℕ) (here : i < 4)
-    (reads : ReadsLines limit (take i block_kinds) (drop i block_kinds) before middle old report) where
-  split : drop i block_kinds ≡ kind_at i ∷ drop (i + 1) block_kinds
-  split = drop_more block_kinds i Quantum here
+begins_more : (limit : ℕ) (shape : Shape) (before : List (Option Share)) (report : Report) (lines : List BlockLine) (line : BlockLine) (bytes middle rest : List ℕ)
+    → BeginsWith limit shape before report lines bytes middle → BeginsWith limit shape before report (line ∷ []) middle rest → BeginsWith limit shape before report (lines ++ line ∷ []) bytes rest
+begins_more limit shape before report [] line bytes middle rest first second = subst (λ b. BeginsWith limit shape before report (line ∷ []) b rest) first second
+begins_more limit shape before report (l ∷ ls) line bytes middle rest first second =
+    (first.0, (first.1.0, begins_more limit shape before report ls line (after_line bytes) middle rest first.1.1 second))
+
+-- ---- the roster of before
+abbrev pub IsNew : List BlockLine → BlockLine → Type 0
+IsNew lines line = All (λ read. line ≢ read) lines
+
+line_after : (shape : Shape) (before now : List (Option Share)) (report : Report) (line : BlockLine) (bytes : List ℕ) → (line ≡ Roster → now ≡ before) → IsLineOf shape now report line bytes
+    → IsLineOf shape before report line bytes
+line_after shape before now report Roster bytes same is_line = subst (λ r. IsSharesLine shape r bytes (roster_of report)) (same refl) is_line
+line_after shape before now report (Numbers kind) bytes same is_line = is_line
+
+within_after : (shape : Shape) (before now : List (Option Share)) (report : Report) (line : BlockLine) → (line ≡ Roster → now ≡ before) → IsWithin shape now report line → IsWithin shape before report line
+within_after shape before now report Roster same within = subst (λ r. IsNewRoster shape r (roster_of report) × All IsSeated report.rows) (same refl) within
+within_after shape before now report (Numbers kind) same within = within
+
+none_after : (shape : Shape) (before now : List (Option Share)) (line : BlockLine) (bytes : List ℕ) → length now ≡ length before → (line ≡ Roster → now ≡ before) → IsNoLineOf shape now line bytes
+    → IsNoLineOf shape before line bytes
+none_after shape before now Roster bytes users same no_line = subst (λ r. IsNoLineOf shape r Roster bytes) (same refl) no_line
+none_after shape before now (Numbers kind) bytes users same no_line = subst (λ n. IsNoLine kind n bytes) users no_line
+
+tells_more : (lines : List BlockLine) (line : BlockLine) → tells_roster (lines ++ line ∷ []) ≡ (if tells_roster (line ∷ []) then true else tells_roster lines)
+tells_more [] Roster = refl
+tells_more [] (Numbers kind) = refl
+tells_more (Roster ∷ lines) Roster = refl
+tells_more (Roster ∷ lines) (Numbers kind) = refl
+tells_more (Numbers other ∷ lines) line = tells_more lines line
+
+parted : (line : BlockLine) (lines : List BlockLine) (last : BlockLine) → IsNew (lines ++ last ∷ []) line → IsNew lines line × (line ≢ last)
+parted line [] last new = (All-nil (λ read. line ≢ read), All-head (λ read. line ≢ read) last [] new)
+parted line (l ∷ ls) last new =
+    let others = parted line ls last (All-tail (λ read. line ≢ read) l (ls ++ last ∷ []) new) in
+    (All-cons (λ read. line ≢ read) l ls (All-head (λ read. line ≢ read) l (ls ++ last ∷ []) new) others.0, others.1)
+
+-- no line was read yet
+pub lines_none : (limit : ℕ) (shape : Shape) (before : Option (List ℕ)) (report : Report) → ReadsLines limit shape [] before before report (record report { changed = false })
+lines_none limit shape before report = record {
+  users = refl;
+  changed = refl;
+  within = All-nil (IsWithin shape (roster_of report) (record report { changed = false }));
+  others = λ line _. unchanged_same line report;
+  told = λ bytes told. (bytes, told, refl);
+}
+
+module _ (limit : ℕ) (shape : Shape) (before middle : Option (List ℕ)) (old out : Report) (lines : List BlockLine) (reads : ReadsLines limit shape lines before middle old out) where
+  roster_stays : (line : BlockLine) → IsNew lines line → line ≡ Roster → roster_of out ≡ roster_of old
+  roster_stays Roster new same = seats_same out.rows old.rows (reads.others Roster new)
+  roster_stays (Numbers kind) new same = cc
 
   -- one line more
-  pub lines_more : (now : Option (List ℕ)) (new : Report) → ReadsKind limit (kind_at i) middle now report new
-      → ReadsLines limit (take (i + 1) block_kinds) (drop (i + 1) block_kinds) before now old new
-  lines_more now new next =
-      let same : All (λ kind. numbers_of kind new ≡ numbers_of kind report) (take i block_kinds) =
-      λ k d l. next.others.others (get_or (take i block_kinds) k d) (others_before i here k d l) in
+  pub lines_more : (now : Option (List ℕ)) (later : Report) (most : ℕ) (line : BlockLine) → most ≡ limit → IsNew lines line → ReadsOne most shape line middle now out later
+      → ReadsLines limit shape (lines ++ line ∷ []) before now old later
+  lines_more now later most line same_limit new one =
+      let stays = roster_stays line new in
+      let same : AllSame lines later out = All-weaker (λ read. line ≢ read) (λ read. IsSame read later out) (λ read ne. one.others read (λ e. ne (sym e))) lines new in
       record {
-        users = next.others.users ∙ reads.users;
-        within = All-more (λ kind. All (λ number. number ≤ limit_of kind) (numbers_of kind new)) block_kinds i Quantum here
-            (λ k d l. rw (same k d l) (reads.within k d l)) next.within;
-        others_kept = λ k d l. next.others.others (get_or (drop (i + 1) block_kinds) k d) (others_after i here k d l)
-            ∙ All-rest (λ kind. numbers_of kind report ≡ numbers_of kind old) (kind_at i) (drop (i + 1) block_kinds) (drop i block_kinds) split reads.others_kept k d l;
+        users = one.users ∙ reads.users;
+        changed = one.changed ∙ ap (λ told. if tells_roster (line ∷ []) then true else told) reads.changed ∙ sym (tells_more lines line);
+        within = All-push (IsWithin shape (roster_of old) later) lines line
+            (λ k d inside. within_moves shape (roster_of old) out later _ (same k d inside) (reads.within k d inside))
+            (within_after shape (roster_of old) (roster_of out) later line stays one.within);
+        others = λ other absent.
+            let parts = parted other lines line absent in
+            same_on other old out later (one.others other parts.1) (reads.others other parts.0);
         told = λ bytes told.
             let first = reads.told bytes told in
-            let second = next.told first.0 first.1 in (
+            let second = one.told first.0 first.1 in
+            let begins : BeginsWith limit shape (roster_of old) later (line ∷ []) first.0 second.0 = (
+              omega (arith, second.2.0),
+              (line_after shape (roster_of old) (roster_of out) later line (line_of first.0) stays second.2.1.0, second.2.1.1),
+            ) in (
               second.0,
               second.1,
-              subst (λ kinds. BeginsWith limit new kinds bytes second.0) (sym (take_more block_kinds i Quantum here))
-                  (begins_more limit new (take i block_kinds) (kind_at i) bytes first.0 second.0
-                  (begins_other limit report new (take i block_kinds) bytes first.0 next.others.users same first.2) second.2),
+              begins_more limit shape (roster_of old) later lines line bytes first.0 second.0 (begins_moves limit shape (roster_of old) out later lines bytes first.0 one.users same first.2) begins,
             );
       }
 
   -- a line that wasn't read
-  pub lines_stop : (now : Option (List ℕ)) (new : Report) → now ≡ middle → new ≡ report → StopsAt limit before now old new
-  lines_stop now new same_left same_report = record {
-    kinds = take i block_kinds;
-    kind = kind_at i;
-    others = drop (i + 1) block_kinds;
-    order = sym (take-append-drop i block_kinds) ∙ ap (λ kinds. take i block_kinds ++ kinds) split;
-    front = rw (same_left, same_report, ← split) reads;
-  }
+  pub lines_stop : (line : BlockLine) (now : Option (List ℕ)) (later : Report) → MayFollow lines line → now ≡ middle → later ≡ out → StopsAt limit shape before now old later
+  lines_stop line now later follows same_left same_report = record { lines = lines; due = line; follows = follows; front = rw (same_left, same_report) reads }
 
-  block_ends_here : (number read : ℕ) (now : Option (List ℕ)) (new : Report) (end : ReportTextEnd) → (i ≡ 0 → (middle ≡ before) × (report ≡ old))
-      → one_more read ≡ min (number + i + 1) (2 ^ 64 - 1) → ReadsNext limit read (kind_at i) middle now report new (Err end) → ReadsBlock limit number before now old new (Err end)
-  block_ends_here number read now new End begins counted next =
-      let start = begins (first_only i here next.0) in
+  -- why it wasn't is why the block ends
+  pub lines_end : (whole : Bool → List BlockLine) (number read most : ℕ) (due : BlockLine → Type 0) (line : BlockLine) (now : Option (List ℕ)) (later : Report) (end : ReportTextEnd)
+      → most ≡ limit → MayFollow lines line → ((next : BlockLine) → MayFollow lines next → due next × IsNew lines next) → (due (Numbers Quantum) → (middle ≡ before) × (out ≡ record old { changed = false }))
+      → one_more read ≡ min (number + length lines + 1) (2 ^ 64 - 1) → ReadsNone most shape read due middle now out later end → ReadsTo whole limit shape number before now old later (Err end)
+  lines_end whole number read most due line now later End same_limit follows only starts counted none =
+      let start = starts none.0 in
       record {
-        nothing = λ bytes told. next.1.nothing bytes (start.0 ∙ told);
-        kept = next.1.kept ∙ start.0;
-        report = next.1.report ∙ start.1;
+        nothing = λ bytes told. none.1.0 bytes (start.0 ∙ told);
+        kept = none.1.1.0 ∙ start.0;
+        report = none.1.1.1 ∙ start.1;
       }
-  block_ends_here number read now new (BadLine line) begins counted next = record {
+  lines_end whole number read most due line now later (BadLine bad_line) same_limit follows only starts counted none = record {
     stop = middle;
-    stops = record {
-      kinds = take i block_kinds;
-      kind = kind_at i;
-      others = drop (i + 1) block_kinds;
-      order = sym (take-append-drop i block_kinds) ∙ ap (λ kinds. take i block_kinds ++ kinds) split;
-      front = rw (next.report, ← split) reads;
-    };
-    line_is = next.line_is ∙ counted ∙ ap (λ n. min (number + n + 1) (2 ^ 64 - 1)) (omega (arith, length-take i block_kinds));
-    bad = λ bytes told. subst (λ users. IsBadNext limit users (kind_at i) bytes) reads.users (next.bad bytes told);
-    past = next.past;
+    stops = record { lines = lines; due = line; follows = follows; front = rw none.report reads };
+    line_is = none.line_is ∙ counted;
+    bad = λ bytes told.
+        let next_bad = none.bad bytes told in
+        record {
+          stands = λ next. next_bad.stands (only (Numbers Quantum) next).0;
+          bad = elim next_bad.bad [
+            | inl long ↦ inl (omega (arith, long))
+            | inr no_line ↦ inr (λ next may.
+                let is = only next may in
+                none_after shape (roster_of old) (roster_of out) next (line_of bytes) (users_of out ∙ reads.users ∙ sym (users_of old)) (roster_stays next is.1) (no_line next is.0))
+          ];
+        };
+    past = λ bytes told. subst (λ n. IsPast n bytes now) same_limit (none.past bytes told);
   }
-  block_ends_here number read now new ReadFault begins counted next = lines_stop now new next.1 next.0
-
-  -- the answer of a line, which isn't Ok, is that of the block
-  pub block_ends : (number read most : ℕ) (now : Option (List ℕ)) (new : Report) (end : ReportTextEnd) → (i ≡ 0 → (middle ≡ before) × (report ≡ old))
-      → one_more read ≡ min (number + i + 1) (2 ^ 64 - 1) → most ≡ limit → ReadsNext most read (kind_at i) middle now report new (Err end) → ReadsBlock limit number before now old new (Err end)
-  block_ends number read most now new end begins counted same next =
-      block_ends_here number read now new end begins counted (subst (λ m. ReadsNext m read (kind_at i) middle now report new (Err end)) same next)
-
--- all lines were read
-pub lines_all : (limit : ℕ) (before now : Option (List ℕ)) (old new : Report) (i : ℕ) → i ≡ 4 → ReadsLines limit (take i block_kinds) (drop i block_kinds) before now old new
-    → ReadsLines limit block_kinds [] before now old new
-lines_all limit before now old new i all reads = subst (λ n. ReadsLines limit (take n block_kinds) (drop n block_kinds) before now old new) all reads
-
--- no line was read yet
-pub lines_none : (limit : ℕ) (before : Option (List ℕ)) (report : Report) → ReadsLines limit [] block_kinds before before report report
-lines_none limit before report = record {
-  users = refl;
-  within = All-nil (λ kind. All (λ number. number ≤ limit_of kind) (numbers_of kind report));
-  others_kept = λ k d l. refl;
-  told = λ bytes told. (bytes, told, refl);
-}
-
-pub counted_on : (number i read later : ℕ) → later ≡ one_more read → one_more read ≡ min (number + i + 1) (2 ^ 64 - 1) → one_more later ≡ min (number + (i + 1) + 1) (2 ^ 64 - 1)
-counted_on number i read later next counted = omega arith
-
-pub counted_lines : (number i read later : ℕ) → later ≡ one_more read → one_more read ≡ min (number + i + 1) (2 ^ 64 - 1) → later ≡ min (number + (i + 1)) (2 ^ 64 - 1)
-counted_lines number i read later next counted = omega arith
+  lines_end whole number read most due line now later ReadFault same_limit follows only starts counted none = lines_stop line now later follows none.1 none.0

@@ -5,7 +5,7 @@ use Rattle.karma_rule.specs.declared.row.Row.{Row}
 use Rattle.demand_book.specs.declared.report.Report.{Report}
 use Rattle.quantum_text.specs.declared.line_kind.LineKind.{LineKind}
 use Rattle.quantum_text.specs.declared.line_kind.LineKind.TheVariants.{Quantum, Demand, Slices, Credits}
-use Rattle.quantum_text.specs.LineKind.{count_of, numbers_of, KeepsOtherKinds}
+use Rattle.quantum_text.specs.LineKind.{count_of, numbers_of, untold, KeepsOtherKinds}
 
 pub length_numbers : (kind : LineKind) (report : Report) → length (numbers_of kind report) ≡ count_of kind (length report.rows)
 length_numbers Quantum report = refl
@@ -14,11 +14,13 @@ length_numbers Slices report = length-map report.rows (λ (row : Row). row.given
 length_numbers Credits report = length-map report.rows (λ (row : Row). row.credits)
 
 pub keeps_all : (kind : LineKind) (report : Report) → KeepsOtherKinds kind report report
-keeps_all kind report = record { users = refl; others = λ other ne. refl }
+keeps_all kind report = record { users = refl; shares = refl; changed = refl; others = λ other ne. refl }
 
 pub keeps_on : (kind : LineKind) (a b c : Report) → KeepsOtherKinds kind a b → KeepsOtherKinds kind b c → KeepsOtherKinds kind a c
 keeps_on kind a b c first second = record {
   users = second.users ∙ first.users;
+  shares = second.shares ∙ first.shares;
+  changed = second.changed ∙ first.changed;
   others = λ other ne. second.others other ne ∙ first.others other ne;
 }
 
@@ -31,11 +33,11 @@ rows_after rows items i row same =
     ∙ ap (take (length rows)) (append-nil (set items i row)) ∙ take_all (length rows) (set items i row) (omega arith)
     ∙ ap (λ t. set t i row) same
 
-pub column_set : (column : Row → ℕ) (rows items : List Row) (i : ℕ) (row : Row) → items ≡ rows
+pub column_set : {A : Type 0} (column : Row → A) (rows items : List Row) (i : ℕ) (row : Row) → items ≡ rows
     → map column (take (length rows) (set items i row ++ drop (length (set items i row)) rows)) ≡ set (map column rows) i (column row)
 column_set column rows items i row same = ap (map column) (rows_after rows items i row same) ∙ map-set column rows i row
 
-column_kept : (column : Row → ℕ) (rows items : List Row) (i : ℕ) (row d : Row) → items ≡ rows → i < length rows → column row ≡ column (get_or items i d)
+column_kept : {A : Type 0} (column : Row → A) (rows items : List Row) (i : ℕ) (row d : Row) → items ≡ rows → i < length rows → column row ≡ column (get_or items i d)
     → map column (take (length rows) (set items i row ++ drop (length (set items i row)) rows)) ≡ map column rows
 column_kept column rows items i row d same here kept =
     column_set column rows items i row same
@@ -43,7 +45,7 @@ column_kept column rows items i row d same here kept =
     ∙ set-get_or (map column rows) i (column d)
 
 abbrev with_row : Report → List Row → ℕ → Row → Report
-with_row report items i row = record { quantum = report.quantum; rows = take (length report.rows) (set items i row ++ drop (length (set items i row)) report.rows) }
+with_row report items i row = record report { rows = take (length report.rows) (set items i row ++ drop (length (set items i row)) report.rows) }
 
 column_keeps : (kind other : LineKind) (report : Report) (items : List Row) (i : ℕ) (row d : Row) → items ≡ report.rows → i < length report.rows
     → (kind ≢ Demand → row.demand ≡ (get_or items i d).demand) → (kind ≢ Slices → row.given ≡ (get_or items i d).given) → (kind ≢ Credits → row.credits ≡ (get_or items i d).credits)
@@ -54,9 +56,11 @@ column_keeps kind Slices report items i row d same here demand given credits ne 
 column_keeps kind Credits report items i row d same here demand given credits ne = column_kept (λ (r : Row). r.credits) report.rows items i row d same here (credits (λ e. ne (sym e)))
 
 pub row_keeps : (kind : LineKind) (report : Report) (items : List Row) (i : ℕ) (row d : Row) → items ≡ report.rows → i < length report.rows
-    → (kind ≢ Demand → row.demand ≡ (get_or items i d).demand) → (kind ≢ Slices → row.given ≡ (get_or items i d).given) → (kind ≢ Credits → row.credits ≡ (get_or items i d).credits)
+    → (kind ≢ Demand → row.demand ≡ (get_or items i d).demand) → (kind ≢ Slices → row.given ≡ (get_or items i d).given) → (kind ≢ Credits → row.credits ≡ (get_or items i d).credits) → untold row ≡ untold (get_or items i d)
     → KeepsOtherKinds kind report (with_row report items i row)
-row_keeps kind report items i row d same here demand given credits = record {
+row_keeps kind report items i row d same here demand given credits share = record {
   users = ap length (rows_after report.rows items i row same) ∙ length-set report.rows i row;
+  shares = column_kept untold report.rows items i row d same here share;
+  changed = refl;
   others = λ other ne. column_keeps kind other report items i row d same here demand given credits ne;
 }

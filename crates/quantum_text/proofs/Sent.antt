@@ -1,30 +1,36 @@
--- What a sink took of a line, and of the lines of a block.
-use Rattle.std.proofs.Common.{◌≡◌, ℕ, ◌+◌, ◌<◌, List, [], ◌∷◌, ◌++◌, length, take, drop, get_or, refl, sym, ◌∙◌, ap, append_assoc, append-nil, take-append-drop}
+-- What a sink took of the lines of a block.
+use Rattle.std.proofs.Common.{◌≡◌, ℕ, ◌+◌, ◌<◌, if◌then◌else◌, Bool, true, false, List, [], ◌∷◌, ◌++◌, length, take, drop, get_or, sym, ap, append_assoc, append-nil}
 use Rattle.std.specs.List.{flat_map}
-use Rattle.std.proofs.lemmas.List.{take_more, flat_map_more}
+use Rattle.far_io.proofs.Sends.{flat_map_take, flat_map_parted}
 use Rattle.demand_book.specs.declared.report.Report.{Report}
 use Rattle.quantum_text.specs.declared.line_kind.LineKind.{LineKind}
-use Rattle.quantum_text.specs.LineKind.{block_kinds, numbers_of}
-use Rattle.quantum_text.specs.Block.{ended_line, block_text, report_text}
+use Rattle.quantum_text.specs.declared.line_kind.LineKind.TheVariants.{Quantum, Demand, Slices, Credits}
+use Rattle.quantum_text.specs.LineKind.{numbers_of}
+use Rattle.quantum_text.specs.Block.{Roster, block_lines, ended_line, ended_text, roster_text, lines_text, report_text}
+
+-- the kinds of lines that come after the roster
+abbrev pub other_kinds : List LineKind
+other_kinds = Demand ∷ Slices ∷ Credits ∷ []
 
 -- the lines of these kinds
 abbrev pub kinds_text : Report → List LineKind → List ℕ
 kinds_text report kinds = flat_map (λ kind. ended_line kind (numbers_of kind report)) kinds
 
-pub kinds_text_more : (report : Report) (kinds : List LineKind) (i : ℕ) (d : LineKind) → i < length kinds
-    → kinds_text report (take (i + 1) kinds) ≡ kinds_text report (take i kinds) ++ ended_line (get_or kinds i d) (numbers_of (get_or kinds i d) report)
-kinds_text_more report kinds i d here =
-    let line = λ (k : LineKind). ended_line k (numbers_of k report) in
-    ap (kinds_text report) (take_more kinds i d here) ∙ sym (flat_map_more line [] (take i kinds) (get_or kinds i d))
+pub kinds_text_more : (report : Report) (kinds : List LineKind) (i : ℕ) → i < length kinds
+    → kinds_text report (take (i + 1) kinds) ≡ kinds_text report (take i kinds) ++ ended_line (get_or kinds i Quantum) (numbers_of (get_or kinds i Quantum) report)
+kinds_text_more report kinds i here = flat_map_take (λ kind. ended_line kind (numbers_of kind report)) kinds i Quantum here
 
-pub kinds_text_append : (report : Report) (xs ys : List LineKind) → kinds_text report (xs ++ ys) ≡ kinds_text report xs ++ kinds_text report ys
-kinds_text_append report [] ys = refl
-kinds_text_append report (x ∷ xs) ys =
-    ap (λ t. ended_line x (numbers_of x report) ++ t) (kinds_text_append report xs ys) ∙ sym (append_assoc (ended_line x (numbers_of x report)) (kinds_text report xs) (kinds_text report ys))
+pub kinds_text_parted : (report : Report) (kinds : List LineKind) (i : ℕ) → kinds_text report kinds ≡ kinds_text report (take i kinds) ++ kinds_text report (drop i kinds)
+kinds_text_parted report kinds i = flat_map_parted (λ kind. ended_line kind (numbers_of kind report)) kinds i
 
-pub kinds_text_split : (report : Report) (kinds : List LineKind) (i : ℕ) → kinds_text report kinds ≡ kinds_text report (take i kinds) ++ kinds_text report (drop i kinds)
-kinds_text_split report kinds i = ap (kinds_text report) (sym (take-append-drop i kinds)) ∙ kinds_text_append report (take i kinds) (drop i kinds)
+-- the first line, and that of the roster where it changed
+abbrev pub opening_text : Report → List ℕ
+opening_text report = ended_line Quantum (numbers_of Quantum report) ++ roster_text report
 
-pub all_kinds_text : (report : Report) → kinds_text report block_kinds ≡ report_text report
-unfolding block_text
-all_kinds_text report = simp (append_assoc, append-nil)
+text_by : (told : Bool) (report : Report)
+    → lines_text report (block_lines told) ≡ (ended_line Quantum (numbers_of Quantum report) ++ (if told then ended_text report Roster else [])) ++ kinds_text report other_kinds
+text_by true report = sym (append_assoc (ended_line Quantum (numbers_of Quantum report)) (ended_text report Roster) (kinds_text report other_kinds))
+text_by false report = ap (λ t. t ++ kinds_text report other_kinds) (sym (append-nil (ended_line Quantum (numbers_of Quantum report))))
+
+pub whole_text : (report : Report) → report_text report ≡ opening_text report ++ kinds_text report other_kinds
+whole_text report = text_by report.changed report

@@ -19,7 +19,7 @@ pub enum LineKind {
 }
 
 impl LineKind {
-    ghost use Rattle.quantum_text.specs.LineKind.{word_of, limit_of, count_of, numbers_of, KeepsOtherKinds};
+    ghost use Rattle.quantum_text.specs.LineKind.{word_of, limit_of, is_first, count_of, numbers_of, KeepsOtherKinds};
 
     /// The lines of a block, in their order.
     pub const ALL: [LineKind; 4] = [
@@ -50,6 +50,16 @@ impl LineKind {
             LineKind::Demand => MOST_DEMAND,
             LineKind::Slices => u64::MAX,
             LineKind::Credits => u64::MAX,
+        }
+    }
+
+    /// Whether a block begins with it.
+    pub fn is_first(self) -> bool
+        ensures { result ≡ is_first self }
+    {
+        match self {
+            LineKind::Quantum => true,
+            LineKind::Demand | LineKind::Slices | LineKind::Credits => false,
         }
     }
 

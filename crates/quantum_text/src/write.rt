@@ -5,9 +5,10 @@ ghost use Rattle.far_io.specs.Faults.{HasCause};
 ghost use Rattle.far_io.specs.Adds.{Adds, AddsPrefix};
 ghost use Rattle.far_io.specs.Sends.{Sends, spaced};
 ghost use Rattle.quantum_text.specs.LineKind.{numbers_of};
-ghost use Rattle.quantum_text.specs.Block.{ended_line, report_text};
+ghost use Rattle.quantum_text.specs.Block.{ended_line, roster_text, report_text};
 
 use crate::line_kind::LineKind;
+use crate::shares::put_shares_line;
 use demand_book::Report;
 use far_io::{Piece, Sink, WriteFault, flush, make_room, push_decimal};
 
@@ -60,15 +61,29 @@ pub fn put_block_line<O: Sink>(
     Ok(())
 }
 
-/// Writes the four lines of the report, in pieces of 4 KiB. After a fault the sink took a prefix of them. It takes
-/// no memory. `docs/FORMATS.md`, "Quantum blocks", has the form.
+/// Puts the line of a report's roster where it changed.
+fn put_roster<O: Sink>(report: &Report, sink: &mut O, piece: &mut Piece) -> Result<(), WriteFault>
+    ensures sends { OnOk result (Sends O.took sink.old sink.new piece.old piece.new (roster_text report.now)) }
+    ensures prefix { OnErr result (AddsPrefix O.took sink.old sink.new (piece.old ++ roster_text report.now)) }
+    ensures cause { HasCause (O.faults sink.old) (O.faults sink.new) result }
+{
+    if !report.changed {
+        return Ok(());
+    }
+    put_shares_line(report, sink, piece)
+}
+
+/// Writes the lines of the report, in pieces of 4 KiB: four, and after the first that of its roster where it changed.
+/// After a fault the sink took a prefix of them. It takes no memory. `docs/FORMATS.md`, "Quantum blocks", has the form.
 pub fn write_report<O: Sink>(report: &Report, sink: &mut O) -> Result<(), WriteFault>
     ensures all { OnOk result (Adds O.took sink.old sink.new (report_text report.now)) }
     ensures prefix { OnErr result (AddsPrefix O.took sink.old sink.new (report_text report.now)) }
     ensures cause { HasCause (O.faults sink.old) (O.faults sink.new) result }
 {
     let mut piece = Piece::new();
-    for kind in LineKind::ALL {
+    put_block_line(LineKind::Quantum, report, sink, &mut piece)?;
+    put_roster(report, sink, &mut piece)?;
+    for kind in [LineKind::Demand, LineKind::Slices, LineKind::Credits] {
         put_block_line(kind, report, sink, &mut piece)?;
     }
     flush(sink, &mut piece)

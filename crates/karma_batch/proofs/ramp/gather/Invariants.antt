@@ -5,5 +5,5 @@ use Rattle.karma_batch.proofs.ramp.gather.Given as goal
 abbrev pub invariant-loop-row : goal.invariant-loop-row
 invariant-loop-row l = record {
   within : l.count ≤ l.row-index;
-  stand : Stand l.side l.floor (take l.row-index l.rows) (take l.count l.ramps);
+  stand : Stand l.side (take l.row-index l.rows) (take l.count l.ramps);
 }

@@ -4,6 +4,6 @@ use Rattle.karma_batch.proofs.spread.spread_at.Given as goal
 
 abbrev pub invariant-loop-row : goal.invariant-loop-row
 invariant-loop-row l = record {
-  so_far : take l.row-index l.rows ++ all_moved l.side (drop l.row-index l.rows) (amounts l.side l.floor l.level l.rest (drop l.row-index l.rows)) ≡ all_moved l.side l.fn.rows (amounts l.side l.floor l.level l.fn.rest l.fn.rows);
+  so_far : take l.row-index l.rows ++ all_moved l.side (drop l.row-index l.rows) (amounts l.side l.level l.rest (drop l.row-index l.rows)) ≡ all_moved l.side l.fn.rows (amounts l.side l.level l.fn.rest l.fn.rows);
   untouched : drop l.row-index l.rows ≡ drop l.row-index l.fn.rows;
 }

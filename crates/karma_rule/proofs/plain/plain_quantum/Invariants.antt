@@ -6,9 +6,9 @@ use Rattle.karma_rule.proofs.plain.plain_quantum.Given as goal
 
 abbrev pub invariant-loans : goal.invariant-loans
 invariant-loans l = record {
-  closes : closing (quantum_of l.share.floor l.rows l.shared) ≡ closing (opening l.share l.fn.rows);
-  rows_open : All (IsOpenRow l.share.floor) l.rows;
+  closes : closing (quantum_of l.rows l.shared) ≡ closing (opening l.fn.rows);
+  rows_open : All IsOpenRow l.rows;
 }
 
 abbrev pub decreases-loans : goal.decreases-loans
-decreases-loans l = lendable (quantum_of l.share.floor l.rows l.shared)
+decreases-loans l = lendable (quantum_of l.rows l.shared)

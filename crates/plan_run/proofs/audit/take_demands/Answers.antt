@@ -26,4 +26,5 @@ loop-user-preserved c =
           ∙ demands_more demands c.args.book.now.rows k here_too;
       shape = ap (λ (b : BookView). b.shape) stands ∙ c.loop-user.invariant.shape;
       quanta = ap (λ (b : BookView). b.quanta) stands ∙ c.loop-user.invariant.quanta;
+      roster = ap (λ (b : BookView). b.roster) stands ∙ c.loop-user.invariant.roster;
     }

@@ -9,4 +9,5 @@ invariant-loop-user l = record {
   rows : l.book.rows ≡ with_demands (take l.user (numbers_of Demand l.read)) l.initial.book.rows;
   shape : l.book.shape ≡ l.initial.book.shape;
   quanta : l.book.quanta ≡ l.initial.book.quanta;
+  roster : l.book.roster ≡ l.initial.book.roster;
 }

@@ -1,31 +1,31 @@
-use Rattle.std.proofs.Common.{◌≡◌, ◌+◌, List, length, subst, sym, ◌∙◌, arith}
+use Rattle.std.proofs.Common.{◌≡◌, ◌+◌, List, length, map, subst, sym, ap, ◌∙◌, arith}
+use Rattle.std.specs.List.{refill}
 use Rattle.karma_rule.specs.declared.row.Row.{Row}
 use Rattle.karma_rule.specs.Quanta.{MakesQuantum}
 use Rattle.demand_book.specs.Book.{BookView}
-use Rattle.std.specs.List.{refill}
 use Rattle.demand_book.specs.Inside.{IsBook}
-use Rattle.demand_book.proofs.RowsOfBook.{overwritten_whole, one_more, IsNext, next_of_quantum}
+use Rattle.demand_book.specs.Roster.{seat_of}
+use Rattle.demand_book.proofs.RowsOfBook.{overwritten_whole, users, one_more, seats_stand}
+use Rattle.demand_book.proofs.Seating.{book_seated}
 use Rattle.demand_book.proofs.book.Book.tick.Goals as goal
 
 pub invariant_of-self : goal.invariant_of-self
 invariant_of-self c =
-    let rows = c.self.inside.rows in
+    let rows = c.self-2.inside.rows in
     let after = c.batch_quantum.new.rows in
-    let share = c.self.inside.shape.share in
-    let made : MakesQuantum rows after share = subst (λ (before : List Row). MakesQuantum before after share) c.items_mut.ensures.value c.batch_quantum.ensures in
-    let next : IsNext share rows after = next_of_quantum share rows after made in
-    subst (IsBook c.self.inside.shape (c.self.inside.quanta + 1)) (sym (overwritten_whole rows after next.users))
-    (one_more c.self.inside.shape c.self.inside.quanta rows after (omega arith) c.self.invariant next)
+    let made : MakesQuantum rows after = subst (λ (before : List Row). MakesQuantum before after) c.items_mut.ensures.value c.batch_quantum.ensures in
+    let quanta : c.self-2.inside.quanta ≡ c.self.inside.quanta = ap (λ (book : BookView). book.quanta) (c.self-2.view_is ∙ c.seat-out.ensures.seated) ∙ ap (λ (book : BookView). book.quanta) (sym c.self.view_is) in
+    let written : refill (length rows) rows after ≡ after = overwritten_whole rows after (users c.self-2.inside.shape c.self-2.inside.quanta rows after made) in
+    subst (λ (rows_then : List Row). IsBook (record { shape = c.self-2.inside.shape; quanta = c.self-2.inside.quanta + 1; rows = rows_then; roster = c.self-2.inside.roster }) c.self-2.inside.promised c.self-2.inside.changes)
+    (sym written) (one_more _ c.self-2.inside.promised c.self-2.inside.changes after c.self-2.invariant (omega arith) made)
 
-pub returns-clause-karma : goal.returns-clause-karma
-returns-clause-karma c =
-    let rows = c.self.inside.rows in
+pub returns-clause-seats : goal.returns-clause-seats
+returns-clause-seats c =
+    let rows = c.self-2.inside.rows in
     let after = c.batch_quantum.new.rows in
-    let share = c.self.inside.shape.share in
-    let made : MakesQuantum rows after share = subst (λ (before : List Row). MakesQuantum before after share) c.items_mut.ensures.value c.batch_quantum.ensures in
-    let of_book : MakesQuantum c.args.self.now.rows after c.args.self.now.shape.share = subst (λ (book : BookView). MakesQuantum book.rows after book.shape.share) c.self.view_is made in
-    let next : IsNext share rows after = next_of_quantum share rows after made in
-    let copied : c.copy_from_slice.new.self ≡ after = c.copy_from_slice.ensures.after ∙ c.items.ensures ∙ overwritten_whole rows after next.users in
-    let long : length c.copy_from_slice.new.self ≡ length c.args.out.now.rows = c.copy_from_slice.ensures.len ∙ c.items_mut-2.ensures.len in
-    let told : refill (length c.args.out.now.rows) c.args.out.now.rows c.copy_from_slice.new.self ≡ after = overwritten_whole c.args.out.now.rows c.copy_from_slice.new.self long ∙ copied in
-    subst (λ (rs : List Row). MakesQuantum c.args.self.now.rows rs c.args.self.now.shape.share) (sym told) of_book
+    let made : MakesQuantum rows after = subst (λ (before : List Row). MakesQuantum before after) c.items_mut.ensures.value c.batch_quantum.ensures in
+    let written : refill (length rows) rows after ≡ after = overwritten_whole rows after (users c.self-2.inside.shape c.self-2.inside.quanta rows after made) in
+    let before : IsBook c.args.self.now c.self.inside.promised c.self.inside.changes = subst (λ (book : BookView). IsBook book c.self.inside.promised c.self.inside.changes) c.self.view_is c.self.invariant in
+    let seated : map seat_of rows ≡ c.self-2.inside.roster =
+    subst (λ (book : BookView). map seat_of book.rows ≡ book.roster) (sym (c.self-2.view_is ∙ c.seat-out.ensures.seated)) (book_seated c.args.self.now c.self.inside.promised c.self.inside.changes before).roster.same in
+    ap (map seat_of) written ∙ seats_stand c.self-2.inside.shape c.self-2.inside.quanta rows after made ∙ seated

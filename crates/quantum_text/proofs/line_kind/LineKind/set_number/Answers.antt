@@ -12,7 +12,7 @@ pub returns-in-Demand-clause-others : goal.returns-in-Demand-clause-others
 returns-in-Demand-clause-others c =
     let place : c.args.index < length (numbers_of Demand c.args.report.now) = rw c.in-Demand.is at c.requires.place in
     rw c.in-Demand.is
-    (row_keeps Demand c.args.report.now _ c.args.index _ _ c.items_mut-rows.ensures.value (omega (arith, length_numbers Demand c.args.report.now)) (λ ne. absurd (ne refl)) (λ ne. refl) (λ ne. refl))
+    (row_keeps Demand c.args.report.now _ c.args.index _ _ c.items_mut-rows.ensures.value (omega (arith, length_numbers Demand c.args.report.now)) (λ ne. absurd (ne refl)) (λ ne. refl) (λ ne. refl) refl)
 
 pub returns-in-Slices-clause-numbers : goal.returns-in-Slices-clause-numbers
 returns-in-Slices-clause-numbers c = rw c.in-Slices.is (column_set (λ (row : Row). row.given) c.args.report.now.rows _ c.args.index _ c.items_mut-rows-in-Slices.ensures.value)
@@ -21,7 +21,7 @@ pub returns-in-Slices-clause-others : goal.returns-in-Slices-clause-others
 returns-in-Slices-clause-others c =
     let place : c.args.index < length (numbers_of Slices c.args.report.now) = rw c.in-Slices.is at c.requires.place in
     rw c.in-Slices.is
-    (row_keeps Slices c.args.report.now _ c.args.index _ _ c.items_mut-rows-in-Slices.ensures.value (omega (arith, length_numbers Slices c.args.report.now)) (λ ne. refl) (λ ne. absurd (ne refl)) (λ ne. refl))
+    (row_keeps Slices c.args.report.now _ c.args.index _ _ c.items_mut-rows-in-Slices.ensures.value (omega (arith, length_numbers Slices c.args.report.now)) (λ ne. refl) (λ ne. absurd (ne refl)) (λ ne. refl) refl)
 
 pub returns-in-Credits-clause-numbers : goal.returns-in-Credits-clause-numbers
 returns-in-Credits-clause-numbers c = rw c.in-Credits.is (column_set (λ (row : Row). row.credits) c.args.report.now.rows _ c.args.index _ c.items_mut-rows-in-Credits.ensures.value)
@@ -30,4 +30,4 @@ pub returns-in-Credits-clause-others : goal.returns-in-Credits-clause-others
 returns-in-Credits-clause-others c =
     let place : c.args.index < length (numbers_of Credits c.args.report.now) = rw c.in-Credits.is at c.requires.place in
     rw c.in-Credits.is
-    (row_keeps Credits c.args.report.now _ c.args.index _ _ c.items_mut-rows-in-Credits.ensures.value (omega (arith, length_numbers Credits c.args.report.now)) (λ ne. refl) (λ ne. refl) (λ ne. absurd (ne refl)))
+    (row_keeps Credits c.args.report.now _ c.args.index _ _ c.items_mut-rows-in-Credits.ensures.value (omega (arith, length_numbers Credits c.args.report.now)) (λ ne. refl) (λ ne. refl) (λ ne. absurd (ne refl)) refl)
