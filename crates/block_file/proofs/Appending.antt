@@ -4,7 +4,11 @@ use Rattle.std.specs.Prelude.{All}
 use Rattle.std.specs.Int.{div_ceil}
 use Rattle.std.proofs.lemmas.Bool.{cases_lt}
 use Rattle.std.proofs.lemmas.List.{get_or_append_left, get_or-append-add, length-append, take_all, append_assoc, take-append-drop, length-drop, length-take}
-use Rattle.block_file.specs.Files.{new_blocks}
+use Rattle.shelf_link.specs.Blocks as map
+use Rattle.shelf_link.specs.Told.{Told}
+use Rattle.block_seats.specs.Seatings.{SeatingView}
+use Rattle.block_file.specs.Files.{FileView, new_blocks}
+use Rattle.block_file.specs.Growth.{IsGrown}
 use Rattle.block_file.proofs.Pieces.{ceil_rest}
 
 -- a test passed by every block is passed by those at the front, and by those at the back
@@ -25,9 +29,22 @@ left_need size used filled blocks bytes pos count filled_is =
     ap (λ r. div_ceil r size) left ∙ ceil_rest (length blocks) used (length bytes) size pos count
 
 -- where bytes are left for new blocks, the blocks that are there are full
-pub filled_whole : (count size filled : ℕ) (old bytes : List ℕ) → length old ≤ count * size → filled ≡ min (length bytes) (count * size - length old) → 0 < length (take (length bytes - filled) (drop filled bytes)) → length (old ++ take filled bytes) ≡ count * size
-filled_whole count size filled old bytes above filled_is some =
-    omega (arith, length-append old (take filled bytes), length-take filled bytes, length-take (length bytes - filled) (drop filled bytes), length-drop filled bytes)
+pub filled_full : (count size used filled : ℕ) (bytes : List ℕ) → used ≤ count * size → filled ≡ min (length bytes) (count * size - used) → 0 < length (take (length bytes - filled) (drop filled bytes)) → used + filled ≡ count * size
+filled_full count size used filled bytes above filled_is some =
+    omega (arith, length-take (length bytes - filled) (drop filled bytes), length-drop filled bytes)
+
+pub rest_long : (filled used : ℕ) (bytes : List ℕ) → filled ≤ length bytes → used + filled + length (take (length bytes - filled) (drop filled bytes)) ≡ used + length bytes
+rest_long filled used bytes within = omega (arith, length-take (length bytes - filled) (drop filled bytes), length-drop filled bytes)
+
+-- a file that grew once, and again
+pub grown_then : (m : map.Blocks) (told told' : Told) (user : ℕ) (mid new : SeatingView) (file file' : FileView) (xs ys : List ℕ) → ((q : ℕ) → All (λ b. q ≢ b) file'.blocks → All (λ b. q ≢ b) file.blocks)
+    → (first : IsGrown m told user mid file xs) → IsGrown first.now told' user new file' ys → IsGrown m told' user new file' ys
+grown_then m told told' user mid new file file' xs ys front first second = record {
+  now = second.now;
+  held = second.held;
+  is = second.is;
+  keeps = record { others = λ q apart. second.keeps.others q apart ∙ first.keeps.others q (front q apart) };
+}
 
 -- what is left after a front
 pub take_rest_of : (filled : ℕ) (bytes : List ℕ) → take (length bytes - filled) (drop filled bytes) ≡ drop filled bytes

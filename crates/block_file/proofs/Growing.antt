@@ -1,117 +1,98 @@
--- New blocks are made one after the other.
-use Rattle.std.proofs.Common.{◌≡◌, ◌≢◌, ℕ, suc, ◌+◌, ◌-◌, ◌*◌, ◌<◌, ◌≤◌, List, [], ◌∷◌, ◌++◌, length, take, drop, min, refl, sym, ap, ◌∙◌, subst, arith}
-use Rattle.std.specs.Prelude.{All}
-use Rattle.std.specs.Int.{div_ceil}
+-- Blocks come into slices, and new ones are made, one after the other.
+use Rattle.std.proofs.Common.{◌≡◌, ℕ, true, false, is_some, List, [], ◌∷◌, ◌++◌, Some, None, Option, refl, sym, ap, ◌∙◌, subst, inl, inr}
 use Rattle.std.specs.Ordering.{nat_cmp}
-use Rattle.std.specs.FinMap.{find}
-use Rattle.std.proofs.lemmas.List.{append_assoc, append-nil, length-append, length-take, length-drop, length_push}
-use Rattle.block_home.specs.Homes.{HomeView, IsAlike, IsNewNumber, room_of}
-use Rattle.block_file.specs.Files.{HoldsBytes}
-use Rattle.block_file.specs.Growth.{AddsBlocks, with_placed_block, without_placed_block, without_blocks}
-use Rattle.block_file.proofs.Finds.{find-put_other, find-without_other}
-use Rattle.block_file.proofs.Pieces.{take-split, ceil_step}
-use Rattle.block_file.proofs.Holding.{holds-added}
+use Rattle.std.specs.FinMap.{find, put}
+use Rattle.std.proofs.lemmas.Bool.{cases_eq}
+use Rattle.slice_seq.specs.Purses.{Purse}
+use Rattle.block_seats.specs.Blocks.{Blocks, BlockView}
+use Rattle.block_seats.specs.Noted.{NotedView, noting_placed}
+use Rattle.block_seats.specs.Purses.{with_block, next_place}
+use Rattle.block_seats.specs.Seatings.{SeatingView, IsAlike, IsNewNumber}
+use Rattle.block_home.proofs.Held.{put_here, put_other}
+use Rattle.block_file.specs.Growth.{with_blocks, noting_in, ComeIn, AddsBlocks}
 
-pub AddsBlocks-push : (old : HomeView) (added : List ℕ) (mid new : HomeView) (block : ℕ) (bytes : List ℕ) → AddsBlocks old added mid → IsNewNumber mid block → new ≡ with_placed_block mid block bytes → AddsBlocks old (added ++ block ∷ []) new
-AddsBlocks-push old [] mid new block bytes same number placed =
-    (bytes, subst (λ h. IsNewNumber h block) same number, placed ∙ ap (λ h. with_placed_block h block bytes) same)
-AddsBlocks-push old (b ∷ added) mid new block bytes adds number placed =
-    (adds.0, adds.1, AddsBlocks-push (with_placed_block old b adds.0) added mid new block bytes adds.2 number placed)
+-- some blocks, and then others
+pub with_blocks-append : (purse : Purse) (xs ys : List ℕ) → with_blocks purse (xs ++ ys) ≡ with_blocks (with_blocks purse xs) ys
+with_blocks-append purse [] ys = refl
+with_blocks-append purse (x ∷ xs) ys = with_blocks-append (with_block purse x) xs ys
 
--- the blocks that were there stay
-pub find-AddsBlocks : (old : HomeView) (added : List ℕ) (new : HomeView) → AddsBlocks old added new → (q : ℕ) → All (λ b. q ≢ b) added → find nat_cmp q new.blocks ≡ find nat_cmp q old.blocks
-find-AddsBlocks old [] new same q apart = ap (λ (h : HomeView). find nat_cmp q h.blocks) same
-find-AddsBlocks old (b ∷ added) new adds q apart =
-    find-AddsBlocks (with_placed_block old b adds.0) added new adds.2 q (λ k d inside. apart (suc k) d (omega arith))
-    ∙ find-put_other q b adds.0 old.blocks (apart 0 0 (omega arith))
+pub noting_in-append : (moves : NotedView) (purse : Purse) (xs ys : List ℕ) → noting_in moves purse (xs ++ ys) ≡ noting_in (noting_in moves purse xs) (with_blocks purse xs) ys
+noting_in-append moves purse [] ys = refl
+noting_in-append moves purse (x ∷ xs) ys = noting_in-append (noting_placed moves (next_place purse) x) (with_block purse x) xs ys
 
--- nothing but blocks, places and moves is another
-pub alike_same : (old new : HomeView) → new ≡ old → IsAlike old new
+pub alike_then : (old mid new : SeatingView) → IsAlike old mid → IsAlike mid new → IsAlike old new
+alike_then old mid new first second = second ∙ (λ i. record (first i) { blocks = new.blocks; purse = new.purse; moves = new.moves })
+
+pub alike_same : (old new : SeatingView) → new ≡ old → IsAlike old new
 alike_same old new same = same ∙ (λ i. record old { blocks = (sym same i).blocks; purse = (sym same i).purse; moves = (sym same i).moves })
 
-pub alike_AddsBlocks : (old : HomeView) (added : List ℕ) (new : HomeView) → AddsBlocks old added new → IsAlike old new
-alike_AddsBlocks old [] new same = alike_same old new same
-alike_AddsBlocks old (b ∷ added) new adds = alike_AddsBlocks (with_placed_block old b adds.0) added new adds.2
-
--- a loop that makes the blocks of `bytes`, and has made those of the first `done` of them
-pub record Adding (start : HomeView) (first : List ℕ) (bytes : List ℕ) (home : HomeView) (blocks : List ℕ) (capacity done : ℕ) : Type 0 where
-  pub within : done ≤ length bytes
-  pub size_is : home.size ≡ start.size
-  pub room : div_ceil (length bytes - done) start.size ≤ room_of home
-  pub space : length blocks + div_ceil (length bytes - done) start.size ≤ capacity
-  pub full : done < length bytes → length blocks * start.size ≡ length first * start.size + done
-  pub holds : (old : List ℕ) → (0 < length bytes → length old ≡ length first * start.size) → HoldsBytes start first old → HoldsBytes home blocks (old ++ take done bytes)
-  pub added : (added : List ℕ) × (blocks ≡ first ++ added) × AddsBlocks start added home
-
-pub adding-none : (start : HomeView) (first bytes : List ℕ) (capacity : ℕ) → div_ceil (length bytes) start.size ≤ room_of start → length first + div_ceil (length bytes) start.size ≤ capacity → Adding start first bytes start first capacity 0
-adding-none start first bytes capacity room space = record {
-  within = omega arith;
-  size_is = refl;
-  room = subst (λ n. div_ceil n start.size ≤ room_of start) (sym whole) room;
-  space = subst (λ n. length first + div_ceil n start.size ≤ capacity) (sym whole) space;
-  full = λ _. omega arith;
-  holds = λ old _ held. subst (λ bs. HoldsBytes start first bs) (sym (append-nil old)) held;
-  added = ([], sym (append-nil first), refl);
+pub come-append : (xs ys : List ℕ) (old mid new : SeatingView) → ComeIn xs old mid → ComeIn ys mid new → ComeIn (xs ++ ys) old new
+come-append xs ys old mid new first second = record {
+  purse = second.purse ∙ ap (λ p. with_blocks p ys) first.purse ∙ sym (with_blocks-append old.purse xs ys);
+  moves = second.moves ∙ (λ i. noting_in (first.moves i) (first.purse i) ys) ∙ sym (noting_in-append old.moves old.purse xs ys);
+  alike = alike_then old mid new first.alike second.alike;
 }
-  where
-    whole : length bytes - 0 ≡ length bytes
-    whole = omega arith
 
-pub adding-more : (start : HomeView) (first bytes : List ℕ) (home : HomeView) (blocks : List ℕ) (capacity done : ℕ) → Adding start first bytes home blocks capacity done → 0 < start.size → done < length bytes → (new : HomeView) (block end : ℕ) → end ≡ min (length bytes) (done + start.size) → IsNewNumber home block → new ≡ with_placed_block home block (take (end - done) (drop done bytes)) → room_of new + 1 ≡ room_of home → Adding start first bytes new (blocks ++ block ∷ []) capacity end
-adding-more start first bytes home blocks capacity done a pos more new block end end_is number placed room_left =
-    let within = a.within in
-    let step = ceil_step (length bytes - done) start.size pos (omega arith) in
-    let left : length bytes - end ≡ (length bytes - done) - start.size = omega arith in
-    let many = length_push blocks block in
-    record {
-      within = omega arith;
-      size_is = ap (λ (h : HomeView). h.size) placed ∙ a.size_is;
-      room = rw left (let room = a.room in omega arith);
-      space = rw left (let space = a.space in omega arith);
-      full = λ still. rw many (let full = a.full more in let whole : end ≡ done + start.size = omega arith in omega arith);
-      holds = λ old whole held. held_more old whole held;
-      added = (
-        a.added.0 ++ block ∷ [],
-        ap (λ bs. bs ++ block ∷ []) a.added.1 ∙ append_assoc first a.added.0 (block ∷ []),
-        AddsBlocks-push start a.added.0 home new block _ a.added.2 number placed,
-      );
-    }
-  where
-    piece : List ℕ
-    piece = take (end - done) (drop done bytes)
+pub come-none : (old new : SeatingView) → new ≡ old → ComeIn [] old new
+come-none old new same = record {
+  purse = ap (λ (s : SeatingView). s.purse) same;
+  moves = ap (λ (s : SeatingView). s.moves) same;
+  alike = alike_same old new same;
+}
 
-    length-piece : length (take (end - done) (drop done bytes)) ≡ end - done
-    length-piece = let within = a.within in omega (arith, length-take (end - done) (drop done bytes), length-drop done bytes)
+pub come-blocks : (old new : SeatingView) → new ≡ record old { blocks = new.blocks } → ComeIn [] old new
+come-blocks old new same = record {
+  purse = ap (λ (s : SeatingView). s.purse) same;
+  moves = ap (λ (s : SeatingView). s.moves) same;
+  alike = same ∙ (λ i. record old { blocks = new.blocks; purse = (sym same i).purse; moves = (sym same i).moves });
+}
 
-    held_more : (old : List ℕ) → (0 < length bytes → length old ≡ length first * start.size) → HoldsBytes start first old → HoldsBytes new (blocks ++ block ∷ []) (old ++ take end bytes)
-    held_more old whole held =
-        let within = a.within in
-        let front : length (take done bytes) ≡ done = omega (arith, length-take done bytes) in
-        let full : length (old ++ take done bytes) ≡ length blocks * home.size =
-        length-append old (take done bytes)
-        ∙ (let is = whole (omega arith) in let all = a.full more in omega arith)
-        ∙ ap (λ s. length blocks * s) (sym a.size_is) in
-        let new_size : new.size ≡ home.size = ap (λ (h : HomeView). h.size) placed in
-        let bytes_are : (old ++ take done bytes) ++ take (end - done) (drop done bytes) ≡ old ++ take end bytes =
-        append_assoc old (take done bytes) _
-        ∙ ap (λ bs. old ++ bs) (sym (take-split done (end - done) bytes) ∙ ap (λ n. take n bytes) (omega arith)) in
-        let some : 0 < length (take (end - done) (drop done bytes)) = let many = length-piece in omega arith in
-        let fits : length (take (end - done) (drop done bytes)) ≤ home.size = let many = length-piece in let same = a.size_is in omega arith in
-        let home_pos : 0 < home.size = let same = a.size_is in omega arith in
-        subst (λ bs. HoldsBytes new (blocks ++ block ∷ []) bs) bytes_are
-        (holds-added home blocks (old ++ take done bytes) (a.holds old whole held) home_pos new block _ new_size (ap (λ (h : HomeView). h.blocks) placed) number.fresh full some fits)
+-- the same numbers name blocks
+abbrev pub AreSame : SeatingView → SeatingView → Type 0
+AreSame old new = (block : ℕ) → is_some (find nat_cmp block new.blocks) ≡ is_some (find nat_cmp block old.blocks)
 
--- one block more is cut
-pub without_blocks-push : (home : HomeView) (blocks : List ℕ) (block : ℕ) → without_blocks home (blocks ++ block ∷ []) ≡ without_placed_block (without_blocks home blocks) block
-without_blocks-push home [] block = refl
-without_blocks-push home (b ∷ blocks) block = without_blocks-push (without_placed_block home b) blocks block
+pub same_put : (old new : Blocks) (block : ℕ) (view : BlockView) → new ≡ put nat_cmp block view old → is_some (find nat_cmp block old) ≡ true → (q : ℕ) → is_some (find nat_cmp q new) ≡ is_some (find nat_cmp q old)
+same_put old new block view is there q =
+    elim (cases_eq q block) [
+      | inl same ↦ subst (λ p. is_some (find nat_cmp p new) ≡ is_some (find nat_cmp p old)) (sym same) (ap is_some (ap (find nat_cmp block) is ∙ put_here old block view) ∙ sym there)
+      | inr apart ↦ ap is_some (ap (find nat_cmp q) is ∙ put_other old block view q apart)
+    ]
 
-pub find-without_blocks : (home : HomeView) (blocks : List ℕ) (q : ℕ) → All (λ b. q ≢ b) blocks → find nat_cmp q (without_blocks home blocks).blocks ≡ find nat_cmp q home.blocks
-find-without_blocks home [] q apart = refl
-find-without_blocks home (b ∷ blocks) q apart =
-    find-without_blocks (without_placed_block home b) blocks q (λ k d inside. apart (suc k) d (omega arith))
-    ∙ find-without_other q b home.blocks (apart 0 0 (omega arith))
+none_of : (o : Option BlockView) → is_some o ≡ false → o ≡ None
+none_of None e = refl
+none_of (Some view) e = cc
 
-pub alike_without_blocks : (home : HomeView) (blocks : List ℕ) → IsAlike home (without_blocks home blocks)
-alike_without_blocks home [] = refl
-alike_without_blocks home (b ∷ blocks) = alike_without_blocks (without_placed_block home b) blocks
+abbrev with_new : SeatingView → ℕ → BlockView → SeatingView
+with_new seats block view = record seats { blocks = put nat_cmp block view seats.blocks }
+
+number_same : (old new : SeatingView) (block : ℕ) → AreSame old new → IsNewNumber new block → IsNewNumber old block
+number_same old new block same number = record {
+  fresh = none_of (find nat_cmp block old.blocks) (sym (same block) ∙ ap is_some number.fresh);
+  least = λ lower below. sym (same lower) ∙ number.least lower below;
+}
+
+same_with : (old new : SeatingView) (block : ℕ) (view : BlockView) → AreSame old new → AreSame (with_new old block view) (with_new new block view)
+same_with old new block view same q =
+    elim (cases_eq q block) [
+      | inl is ↦
+          ap (λ b. is_some (find nat_cmp b (put nat_cmp block view new.blocks))) is
+          ∙ ap is_some (put_here new.blocks block view ∙ sym (put_here old.blocks block view))
+          ∙ sym (ap (λ b. is_some (find nat_cmp b (put nat_cmp block view old.blocks))) is)
+      | inr apart ↦
+          ap is_some (put_other new.blocks block view q apart)
+          ∙ same q
+          ∙ sym (ap is_some (put_other old.blocks block view q apart))
+    ]
+
+-- one block more was made
+pub adds-push : (old : SeatingView) (added : List ℕ) (mid new : SeatingView) (block : ℕ) (view : BlockView) → AddsBlocks old added mid → IsNewNumber mid block → AreSame (with_new mid block view) new → AddsBlocks old (added ++ block ∷ []) new
+adds-push old [] mid new block view same number now =
+    (view, number_same old mid block same number, λ q. now q ∙ same_with old mid block view same q)
+adds-push old (b ∷ added) mid new block view adds number now =
+    (adds.0, adds.1, adds-push (with_new old b adds.0) added mid new block view adds.2 number now)
+
+-- new blocks were made after bytes were written
+pub adds-after : (old mid : SeatingView) (added : List ℕ) (new : SeatingView) → AreSame old mid → AddsBlocks mid added new → AddsBlocks old added new
+adds-after old mid [] new same adds = λ q. adds q ∙ same q
+adds-after old mid (b ∷ added) new same adds =
+    (adds.0, number_same old mid b same adds.1, adds-after (with_new old b adds.0) (with_new mid b adds.0) added new (same_with old mid b adds.0 same) adds.2)

@@ -1,10 +1,11 @@
 -- What contracts see of a file, and the bytes that it stands for.
-use Rattle.std.specs.Prelude.{◌≡◌, ◌≢◌, ℕ, ◌+◌, ◌-◌, ◌*◌, ◌<◌, List, [], length, slice_index, take, drop, AllPairs, Some}
+use Rattle.std.specs.Prelude.{◌≡◌, ◌≢◌, ℕ, ◌+◌, ◌-◌, ◌*◌, ◌%◌, ◌<◌, ◌==◌, ◌&&◌, nat_lt, min, not, if◌then◌else◌, Bool, List, [], ◌∷◌, length, filter, slice_index, take, drop, AllPairs, Some, None}
 use Rattle.std.specs.Int.{div_ceil}
-use Rattle.std.specs.Ordering.{nat_cmp}
-use Rattle.std.specs.FinMap.{find}
-use Rattle.slice_seq.specs.Needs.{append_need}
-use Rattle.block_home.specs.Homes.{HomeView}
+use Rattle.slice_seq.specs.Purses.{Purse, has_block}
+use Rattle.slice_seq.specs.Needs.{is_last_parked, append_need}
+use Rattle.shelf_link.specs.Blocks as map
+use Rattle.block_seats.specs.Seatings.{SeatingView, HasBlock, IsSeated, length_at}
+use Rattle.block_home.specs.Calls.{stamp_at}
 
 -- how many bytes a file has, and its blocks in their order
 pub record FileView : Type 0 where
@@ -14,26 +15,61 @@ pub record FileView : Type 0 where
 abbrev pub empty_file : FileView
 empty_file = record { length = 0; blocks = [] }
 
--- these blocks of a home hold these bytes: as few blocks as can, no block twice, and block i with the bytes from i
+abbrev pub file_in : ℕ → List ℕ → FileView
+file_in len blocks = record { length = len; blocks = blocks }
+
+-- by this map these blocks hold these bytes: as few blocks as can, no block twice, and block i with the bytes from i
 -- times the size on, as many as fit. So all are full but the last
-pub record HoldsBytes (home : HomeView) (blocks bytes : List ℕ) : Type 0 where
-  pub count : length blocks ≡ div_ceil (length bytes) home.size
+pub record HoldsBytes (size : ℕ) (m : map.Blocks) (blocks bytes : List ℕ) : Type 0 where
+  pub count : length blocks ≡ div_ceil (length bytes) size
   pub distinct : AllPairs ◌≢◌ blocks
-  pub each : (i : ℕ) → i < length blocks → find nat_cmp (slice_index blocks i) home.blocks ≡ Some (take home.size (drop (i * home.size) bytes))
+  pub each : (i : ℕ) → i < length blocks
+      → map.block_at m (slice_index blocks i) ≡ Some (take size (drop (i * size) bytes))
 
--- a file in a home is this list of bytes
-pub record IsFile (home : HomeView) (file : FileView) (bytes : List ℕ) : Type 0 where
+-- by this map a file is this list of bytes
+pub record IsFile (size : ℕ) (m : map.Blocks) (file : FileView) (bytes : List ℕ) : Type 0 where
   pub size_is : file.length ≡ length bytes
-  pub holds : HoldsBytes home file.blocks bytes
+  pub holds : HoldsBytes size m file.blocks bytes
 
--- a file is some list of bytes
-abbrev pub IsSound : HomeView → FileView → Type 0
-IsSound home file = (bytes : List ℕ) × IsFile home file bytes
+-- a block is there, wherever it is, and has so many bytes
+pub record IsLong (seats : SeatingView) (block len : ℕ) : Type 0 where
+  pub there : HasBlock seats block
+  pub long : length_at seats block ≡ len
+
+-- what stands of a file whatever a store holds: how many blocks it has and how long each is
+pub record IsSound (seats : SeatingView) (file : FileView) : Type 0 where
+  pub count : length file.blocks ≡ div_ceil file.length seats.size
+  pub distinct : AllPairs ◌≢◌ file.blocks
+  pub each : (i : ℕ) → i < length file.blocks
+      → IsLong seats (slice_index file.blocks i) (min seats.size (file.length - i * seats.size))
+
+-- a block is in a slice, and so it has no stamp
+pub record IsInSlice (seats : SeatingView) (block : ℕ) : Type 0 where
+  pub seated : IsSeated seats block
+  pub unstamped : stamp_at seats.blocks block ≡ None
 
 -- how many blocks more a file of so many bytes has with so many more
 abbrev pub new_blocks : (size old more : ℕ) → ℕ
 new_blocks size old more = div_ceil (old + more) size - div_ceil old size
 
 -- how many slices an append of so many bytes to a file needs in its home
-abbrev pub need_of : HomeView → FileView → (more : ℕ) → ℕ
-need_of home file more = append_need home.size home.purse file.blocks file.length more
+abbrev pub need_of : SeatingView → FileView → (more : ℕ) → ℕ
+need_of seats file more = append_need seats.size seats.purse file.blocks file.length more
+
+-- whether an append of so many bytes needs the last block, and that is parked
+abbrev pub needs_last : SeatingView → FileView → (more : ℕ) → Bool
+needs_last seats file more =
+    nat_lt 0 more && not (file.length % seats.size == 0) && is_last_parked seats.purse file.blocks
+
+-- the last block, if it is
+abbrev pub needed_last : SeatingView → FileView → (more : ℕ) → List ℕ
+needed_last seats file more =
+    if needs_last seats file more then slice_index file.blocks (length file.blocks - 1) ∷ [] else []
+
+-- those of these blocks that are in no slice
+abbrev pub parked_of : Purse → List ℕ → List ℕ
+parked_of purse blocks = filter (λ block. not (has_block purse block)) blocks
+
+-- and those that are in one
+abbrev pub seated_of : Purse → List ℕ → List ℕ
+seated_of purse blocks = filter (λ block. has_block purse block) blocks

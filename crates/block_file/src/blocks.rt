@@ -1,19 +1,26 @@
 //! Blocks of a home that hold a list of bytes.
 
-ghost use Rattle.std.specs.Prelude.{◌≡◌, ◌+◌, ◌-◌, ◌*◌, ◌^◌, ◌<◌, ◌≤◌, ◌++◌, List, ℕ, min, length, take, drop, is_some, vec_len, vec_capacity, IsOk};
+ghost use Rattle.std.specs.Prelude.{◌≡◌, ◌≢◌, ◌+◌, ◌-◌, ◌*◌, ◌%◌, ◌^◌, ◌<◌, ◌≤◌, ◌++◌, [], List, ℕ, min, length, take, drop, slice_index, vec_len, vec_capacity, IsTrue, IsErr, IfErr, OnOk, OnErr};
 ghost use Rattle.std.specs.Int.{div_ceil};
-ghost use Rattle.std.specs.Ordering.{nat_cmp};
-ghost use Rattle.std.specs.FinMap.{find};
+ghost use Rattle.far_io.specs.Faults.{Follows, HasCause};
 ghost use Rattle.slice_seq.specs.Needs.{is_last_parked};
-ghost use Rattle.block_home.specs.Homes.{HomeView, IsAlike, room_of};
-ghost use Rattle.block_file.specs.Files.{HoldsBytes, new_blocks};
-ghost use Rattle.block_file.specs.Growth.{AddsBlocks, Grows, KeepsOthers, without_blocks};
+ghost use Rattle.shelf_link.specs.Blocks as map;
+ghost use Rattle.shelf_link.specs.Told.{IsSameKind};
+ghost use Rattle.block_seats.specs.Seatings.{SeatingView, IsSeated, IsAlike};
+ghost use Rattle.block_home.specs.Homes.{room_of};
+ghost use Rattle.block_home.specs.Stored.{Causes, IsStoreEnd};
+ghost use Rattle.block_home.specs.Holding.{Holds};
+ghost use Rattle.block_home.specs.Calls.{Carries, KeepsLengths, stamp_at};
+ghost use Rattle.block_file.specs.Files.{file_in, HoldsBytes, IsSound, IsInSlice, new_blocks, needs_last, needed_last, parked_of, seated_of};
+ghost use Rattle.block_file.specs.Growth.{ComeIn, GoOut, AddsBlocks, KeepsOthers, IsGrown, without_all};
+ghost use Rattle.block_file.specs.Ends.{NamesBlock, IsNeverDamaged, ReadsParked};
 
-use block_home::{Home, HomeEnd};
+use block_home::{Home, HomeEnd, StoreFault};
+use shelf_link::Shelf;
 
-/// Whether the last block is in no slice. No block is parked, until blocks can lie elsewhere.
-pub(crate) fn ends_parked(blocks: &[u64], home: &Home) -> bool
-    ensures { result ≡ is_last_parked home.now.purse blocks.now }
+/// Whether the last block is in no slice.
+pub(crate) fn ends_parked<K: Shelf>(blocks: &[u64], home: &Home<K>) -> bool
+    ensures { result ≡ is_last_parked home.now.seats.purse blocks.now }
 {
     match blocks.last() {
         Some(block) => home.place(*block).is_none(),
@@ -21,38 +28,101 @@ pub(crate) fn ends_parked(blocks: &[u64], home: &Home) -> bool
     }
 }
 
+/// Brings the last block into a slice, where it is parked and an append of so many bytes needs it. The blocks hold
+/// `used` bytes.
+pub(crate) fn load_last<K: Shelf>(
+    blocks: &[u64],
+    home: &mut Home<K>,
+    used: u64,
+    more: u64,
+) -> Result<(), HomeEnd>
+    requires sound { IsSound home.old.seats (file_in used blocks.now) }
+    requires room { length (needed_last home.old.seats (file_in used blocks.now) more) ≤ room_of home.old.seats }
+    ensures came { OnOk result
+        (ComeIn (needed_last home.old.seats (file_in used blocks.now) more) home.old.seats home.new.seats) }
+    ensures left { OnOk result
+        (room_of home.old.seats
+        ≤ room_of home.new.seats + length (needed_last home.old.seats (file_in used blocks.now) more)) }
+    ensures seated { OnOk result (0 < more → used % home.old.seats.size ≢ 0
+        → IsInSlice home.new.seats (slice_index blocks.now (length blocks.now - 1))) }
+    ensures lengths { KeepsLengths home.old.seats home.new.seats }
+    ensures others { KeepsOthers home.old.seats.blocks home.new.seats.blocks blocks.now }
+    ensures holds { Carries home.old.user (K.told home.old.shelf) home.old.seats.blocks
+        (K.told home.new.shelf) home.new.seats.blocks }
+    ensures told { K.told home.new.shelf ≡ K.told home.old.shelf }
+    ensures rest { home.new ≡ record home.old { seats = home.new.seats; shelf = home.new.shelf } }
+    ensures same { OnErr result (home.new.seats ≡ home.old.seats) }
+    ensures ends { IfErr result IsStoreEnd }
+    ensures cause { Causes (K.faults home.old.shelf) (K.faults home.new.shelf) result }
+    ensures names { NamesBlock home.old.seats blocks.now result }
+    ensures telling { IsNeverDamaged (K.told home.old.shelf) home.old.user home.old.seats result }
+    ensures void { IsTrue (K.told home.old.shelf).void
+        → IsTrue (needs_last home.old.seats (file_in used blocks.now) more) → IsErr result }
+    ensures needed { OnErr result (IsTrue (needs_last home.old.seats (file_in used blocks.now) more)) }
+{
+    let size = u64::from(home.size());
+    if more == 0 || used % size == 0 {
+        return Ok(());
+    }
+    home.load(blocks[blocks.len() - 1])
+}
+
 /// Writes into the last block what it has room for, and says how much that is. The blocks hold `used` bytes before.
-pub(crate) fn fill_last(blocks: &[u64], home: &mut Home, used: u64, bytes: &[u8]) -> usize
-    requires { (old : List ℕ) × (used ≡ length old) × HoldsBytes home.old blocks.now old }
-    ensures count { result ≡ min (length bytes.now) (length blocks.now * home.old.size - used) }
-    ensures bytes { (old : List ℕ) → used ≡ length old → HoldsBytes home.old blocks.now old
-        → HoldsBytes home.new blocks.now (old ++ take result bytes.now) }
-    ensures rest { home.new ≡ record home.old { blocks = home.new.blocks } }
-    ensures numbers { (block : ℕ) → is_some (find nat_cmp block home.new.blocks) ≡ is_some (find nat_cmp block home.old.blocks) }
-    ensures others { KeepsOthers home.old home.new blocks.now }
+pub(crate) fn fill_last<K: Shelf>(
+    blocks: &[u64],
+    home: &mut Home<K>,
+    used: u64,
+    bytes: &[u8],
+) -> usize
+    requires sound { IsSound home.old.seats (file_in used blocks.now) }
+    requires seated { 0 < length bytes.now → used % home.old.seats.size ≢ 0
+        → IsInSlice home.old.seats (slice_index blocks.now (length blocks.now - 1)) }
+    ensures count { result ≡ min (length bytes.now) (length blocks.now * home.old.seats.size - used) }
+    ensures sound { IsSound home.new.seats (file_in (used + result) blocks.now) }
+    ensures bytes { (m : map.Blocks) (old : List ℕ)
+        → Holds m (K.told home.old.shelf) home.old.user home.old.seats.blocks
+        → used ≡ length old → HoldsBytes home.old.seats.size m blocks.now old
+        → IsGrown m (K.told home.new.shelf) home.old.user home.new.seats
+        (file_in (used + result) blocks.now) (old ++ take result bytes.now) }
+    ensures rest { home.new ≡ record home.old { seats = record home.old.seats { blocks = home.new.seats.blocks } } }
+    ensures numbers { AddsBlocks home.old.seats [] home.new.seats }
+    ensures others { KeepsOthers home.old.seats.blocks home.new.seats.blocks blocks.now }
+    ensures room { room_of home.new.seats ≡ room_of home.old.seats }
     // What `size` says of each home.
-    ensures some { 1 ≤ home.old.size }
+    ensures some { 1 ≤ home.old.seats.size }
 {
     let size = u64::from(home.size());
     let at = used % size;
-    if at == 0 {
+    if at == 0 || bytes.is_empty() {
         return 0;
     }
     let last = blocks[blocks.len() - 1];
-    let resident = home.place(last).is_some();
-    prove!(resident);
     let count = bytes.len().min((size - at) as usize);
     home.write(last, at as u32, &bytes[..count]);
     count
 }
 
-/// Puts bytes into new blocks, as few as can.
-pub(crate) fn add_blocks(blocks: &mut Vec<u64>, home: &mut Home, bytes: &[u8])
-    requires room { div_ceil (length bytes.now) home.old.size ≤ room_of home.old }
-    requires space { vec_len blocks.old + div_ceil (length bytes.now) home.old.size ≤ vec_capacity blocks.old }
-    ensures bytes { (old : List ℕ) → (0 < length bytes.now → length old ≡ vec_len blocks.old * home.old.size)
-        → HoldsBytes home.old blocks.old.items old → HoldsBytes home.new blocks.new.items (old ++ bytes.now) }
-    ensures added { (added : List ℕ) × (blocks.new.items ≡ blocks.old.items ++ added) × AddsBlocks home.old added home.new }
+/// Puts bytes into new blocks, as few as can, after `used` ones that fill the blocks that are there.
+pub(crate) fn add_blocks<K: Shelf>(
+    blocks: &mut Vec<u64>,
+    home: &mut Home<K>,
+    used: u64,
+    bytes: &[u8],
+)
+    requires sound { IsSound home.old.seats (file_in used blocks.old.items) }
+    requires full { 0 < length bytes.now → used ≡ vec_len blocks.old * home.old.seats.size }
+    requires room { div_ceil (length bytes.now) home.old.seats.size ≤ room_of home.old.seats }
+    requires space { vec_len blocks.old + div_ceil (length bytes.now) home.old.seats.size ≤ vec_capacity blocks.old }
+    ensures sound { IsSound home.new.seats (file_in (used + length bytes.now) blocks.new.items) }
+    ensures bytes { (m : map.Blocks) (old : List ℕ)
+        → Holds m (K.told home.old.shelf) home.old.user home.old.seats.blocks
+        → used ≡ length old → HoldsBytes home.old.seats.size m blocks.old.items old
+        → IsGrown m (K.told home.new.shelf) home.old.user home.new.seats
+        (file_in (used + length bytes.now) blocks.new.items) (old ++ bytes.now) }
+    ensures added { (added : List ℕ) × (blocks.new.items ≡ blocks.old.items ++ added)
+        × ComeIn added home.old.seats home.new.seats × AddsBlocks home.old.seats added home.new.seats }
+    ensures others { KeepsOthers home.old.seats.blocks home.new.seats.blocks blocks.new.items }
+    ensures rest { home.new ≡ record home.old { seats = home.new.seats } }
 {
     let size = home.size() as usize;
     let mut done = 0;
@@ -64,35 +134,59 @@ pub(crate) fn add_blocks(blocks: &mut Vec<u64>, home: &mut Home, bytes: &[u8])
     }
 }
 
-/// Puts bytes after the `used` ones that the blocks hold: the last block is filled first, and then come new blocks, as few
-/// as can.
-pub(crate) fn extend_blocks(blocks: &mut Vec<u64>, home: &mut Home, used: u64, bytes: &[u8])
-    requires held { (old : List ℕ) × (used ≡ length old) × HoldsBytes home.old blocks.old.items old }
-    requires room { new_blocks home.old.size used (length bytes.now) ≤ room_of home.old }
-    requires space { vec_len blocks.old + new_blocks home.old.size used (length bytes.now) ≤ vec_capacity blocks.old }
-    ensures bytes { (old : List ℕ) → used ≡ length old → HoldsBytes home.old blocks.old.items old
-        → HoldsBytes home.new blocks.new.items (old ++ bytes.now) }
-    ensures grows { (added : List ℕ) × (blocks.new.items ≡ blocks.old.items ++ added) × Grows home.old added home.new }
-    ensures others { KeepsOthers home.old home.new blocks.new.items }
-    ensures alike { IsAlike home.old home.new }
+/// Puts bytes after the `used` ones that the blocks hold: the last block is filled first, and then come new blocks, as
+/// few as can.
+pub(crate) fn extend_blocks<K: Shelf>(
+    blocks: &mut Vec<u64>,
+    home: &mut Home<K>,
+    used: u64,
+    bytes: &[u8],
+)
+    requires sound { IsSound home.old.seats (file_in used blocks.old.items) }
+    requires limit { used + length bytes.now < 2 ^ 64 }
+    requires seated { 0 < length bytes.now → used % home.old.seats.size ≢ 0
+        → IsInSlice home.old.seats (slice_index blocks.old.items (length blocks.old.items - 1)) }
+    requires room { new_blocks home.old.seats.size used (length bytes.now) ≤ room_of home.old.seats }
+    requires space { vec_len blocks.old + new_blocks home.old.seats.size used (length bytes.now)
+        ≤ vec_capacity blocks.old }
+    ensures sound { IsSound home.new.seats (file_in (used + length bytes.now) blocks.new.items) }
+    ensures bytes { (m : map.Blocks) (old : List ℕ)
+        → Holds m (K.told home.old.shelf) home.old.user home.old.seats.blocks
+        → used ≡ length old → HoldsBytes home.old.seats.size m blocks.old.items old
+        → IsGrown m (K.told home.new.shelf) home.old.user home.new.seats
+        (file_in (used + length bytes.now) blocks.new.items) (old ++ bytes.now) }
+    ensures added { (added : List ℕ) × (blocks.new.items ≡ blocks.old.items ++ added)
+        × ComeIn added home.old.seats home.new.seats × AddsBlocks home.old.seats added home.new.seats }
+    ensures others { KeepsOthers home.old.seats.blocks home.new.seats.blocks blocks.new.items }
+    ensures rest { home.new ≡ record home.old { seats = home.new.seats } }
 {
     let filled = fill_last(blocks, home, used, bytes);
-    add_blocks(blocks, home, &bytes[filled..]);
+    add_blocks(blocks, home, used + filled as u64, &bytes[filled..]);
 }
 
-/// Fills `out` with the bytes from place `from` on.
-pub(crate) fn read_blocks(
+/// Fills `out` with the bytes from place `from` on. The blocks hold `used` bytes.
+pub(crate) fn read_blocks<K: Shelf>(
     blocks: &[u64],
-    home: &mut Home,
+    home: &mut Home<K>,
+    used: u64,
     from: u64,
     out: &mut [u8],
 ) -> Result<(), HomeEnd>
-    requires held { (bytes : List ℕ) × HoldsBytes home.old blocks.now bytes × (0 < length out.old → from + length out.old ≤ length bytes) }
+    requires sound { IsSound home.old.seats (file_in used blocks.now) }
+    requires within { 0 < length out.old → from + length out.old ≤ used }
     requires fits { from + length out.old < 2 ^ 64 }
-    ensures bytes { (bytes : List ℕ) → HoldsBytes home.old blocks.now bytes → (0 < length out.old → from + length out.old ≤ length bytes)
-        → out.new ≡ take (length out.old) (drop from bytes) }
-    ensures ok { IsOk result }
-    ensures home { home.new ≡ home.old }
+    ensures bytes { OnOk result ((m : map.Blocks) (bytes : List ℕ)
+        → Holds m (K.told home.old.shelf) home.old.user home.old.seats.blocks
+        → used ≡ length bytes → HoldsBytes home.old.seats.size m blocks.now bytes
+        → out.new ≡ take (length out.old) (drop from bytes)) }
+    ensures told { K.told home.new.shelf ≡ K.told home.old.shelf }
+    ensures rest { home.new ≡ record home.old { shelf = home.new.shelf } }
+    ensures ends { IfErr result IsStoreEnd }
+    ensures cause { Causes (K.faults home.old.shelf) (K.faults home.new.shelf) result }
+    ensures names { NamesBlock home.old.seats blocks.now result }
+    ensures telling { IsNeverDamaged (K.told home.old.shelf) home.old.user home.old.seats result }
+    ensures void { IsTrue (K.told home.old.shelf).void
+        → ReadsParked home.old.seats (file_in used blocks.now) from (length out.old) → IsErr result }
 {
     let size = u64::from(home.size());
     let mut done = 0;
@@ -110,12 +204,86 @@ pub(crate) fn read_blocks(
     Ok(())
 }
 
-/// Ends these blocks.
-pub(crate) fn cut_blocks(blocks: &[u64], home: &mut Home)
-    requires { (bytes : List ℕ) × HoldsBytes home.old blocks.now bytes }
-    ensures { home.new ≡ without_blocks home.old blocks.now }
+/// Ends these blocks, which hold `used` bytes.
+pub(crate) fn cut_blocks<K: Shelf>(blocks: &[u64], home: &mut Home<K>, used: u64)
+    requires { IsSound home.old.seats (file_in used blocks.now) }
+    ensures holds { (m : map.Blocks) → Holds m (K.told home.old.shelf) home.old.user home.old.seats.blocks
+        → Holds (without_all m blocks.now) (K.told home.new.shelf) home.old.user home.new.seats.blocks }
+    ensures blocks { home.new.seats.blocks ≡ without_all home.old.seats.blocks blocks.now }
+    ensures goes { GoOut blocks.now home.old.seats home.new.seats }
+    ensures follows { Follows (K.faults home.old.shelf) (K.faults home.new.shelf) }
+    ensures kind { IsSameKind (K.told home.old.shelf) (K.told home.new.shelf) }
+    ensures rest { home.new ≡ record home.old { seats = home.new.seats; shelf = home.new.shelf } }
 {
     for block in blocks {
         home.cut(*block);
     }
+}
+
+/// Parks these blocks, which hold `used` bytes, one after the other, up to the first that the store doesn't take.
+pub(crate) fn park_blocks<K: Shelf>(
+    blocks: &[u64],
+    home: &mut Home<K>,
+    used: u64,
+) -> Result<(), StoreFault>
+    requires sound { IsSound home.old.seats (file_in used blocks.now) }
+    ensures holds { Carries home.old.user (K.told home.old.shelf) home.old.seats.blocks
+        (K.told home.new.shelf) home.new.seats.blocks }
+    ensures ok { OnOk result (GoOut (seated_of home.old.seats.purse blocks.now) home.old.seats home.new.seats) }
+    ensures err { OnErr result ((n : ℕ)
+        × GoOut (take n (seated_of home.old.seats.purse blocks.now)) home.old.seats home.new.seats) }
+    ensures lengths { KeepsLengths home.old.seats home.new.seats }
+    ensures others { KeepsOthers home.old.seats.blocks home.new.seats.blocks blocks.now }
+    ensures cause { HasCause (K.faults home.old.shelf) (K.faults home.new.shelf) result }
+    ensures kind { IsSameKind (K.told home.old.shelf) (K.told home.new.shelf) }
+    ensures rest { home.new ≡ record home.old { seats = home.new.seats; shelf = home.new.shelf } }
+{
+    for block in blocks {
+        home.park(*block)?;
+    }
+    Ok(())
+}
+
+/// How many of these blocks are in no slice.
+pub(crate) fn count_parked<K: Shelf>(blocks: &[u64], home: &Home<K>) -> u64
+    ensures { result ≡ length (parked_of home.now.seats.purse blocks.now) }
+{
+    let mut count = 0;
+    for block in blocks {
+        if home.place(*block).is_none() {
+            count += 1;
+        }
+    }
+    count
+}
+
+/// Brings those of these blocks into slices that are in none, one after the other, up to the first that the store
+/// doesn't give. They hold `used` bytes.
+pub(crate) fn load_blocks<K: Shelf>(
+    blocks: &[u64],
+    home: &mut Home<K>,
+    used: u64,
+) -> Result<(), HomeEnd>
+    requires sound { IsSound home.old.seats (file_in used blocks.now) }
+    requires room { length (parked_of home.old.seats.purse blocks.now) ≤ room_of home.old.seats }
+    ensures holds { Carries home.old.user (K.told home.old.shelf) home.old.seats.blocks
+        (K.told home.new.shelf) home.new.seats.blocks }
+    ensures ok { OnOk result (ComeIn (parked_of home.old.seats.purse blocks.now) home.old.seats home.new.seats) }
+    ensures err { OnErr result ((n : ℕ)
+        × ComeIn (take n (parked_of home.old.seats.purse blocks.now)) home.old.seats home.new.seats) }
+    ensures lengths { KeepsLengths home.old.seats home.new.seats }
+    ensures others { KeepsOthers home.old.seats.blocks home.new.seats.blocks blocks.now }
+    ensures told { K.told home.new.shelf ≡ K.told home.old.shelf }
+    ensures rest { home.new ≡ record home.old { seats = home.new.seats; shelf = home.new.shelf } }
+    ensures ends { IfErr result IsStoreEnd }
+    ensures cause { Causes (K.faults home.old.shelf) (K.faults home.new.shelf) result }
+    ensures names { NamesBlock home.old.seats blocks.now result }
+    ensures telling { IsNeverDamaged (K.told home.old.shelf) home.old.user home.old.seats result }
+    ensures void { IsTrue (K.told home.old.shelf).void → 0 < length (parked_of home.old.seats.purse blocks.now)
+        → IsErr result }
+{
+    for block in blocks {
+        home.load(*block)?;
+    }
+    Ok(())
 }

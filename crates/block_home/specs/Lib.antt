@@ -1,12 +1,10 @@
--- a table is seen as a finite map
-pub mod Tables
--- the purse of a home, block by block
-pub mod Purses
--- the moves of a home since they were cleared last
-pub mod Noted
+-- what a store holds of blocks, and what it gives of one
+pub mod Stored
+-- when blocks and a store hold a map
+pub mod Holding
 -- what contracts see of a home
 pub mod Homes
--- what its two tables stand for
-pub mod Seats
--- what holds of its tables
-pub mod Well
+-- what its calls do
+pub mod Calls
+-- what a yield gives
+pub mod Yields

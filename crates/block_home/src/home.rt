@@ -1,344 +1,390 @@
 //! The home.
-ghost use Rattle.std.specs.Prelude.{◌≡◌, ℕ, ◌==◌, ◌↔◌, if◌then◌else◌, IfSome, ◌+◌, ◌≤◌, ◌<◌, ◌⊎◌, [], length, take, drop, IsTrue, IsSome, IsOk, IfOk, OnOk, Some, None, false, replicate, Err};
+ghost use Rattle.std.specs.Prelude.{◌≡◌, ℕ, List, ◌==◌, ◌↔◌, if◌then◌else◌, ◌⊎◌, ◌+◌, ◌≤◌, ◌<◌, [], length, is_some, take, drop, IsTrue, IsSome, IsOk, IsErr, IfOk, IfErr, OnOk, OnErr, IsOkUnless, Some, None, true, false, Ok, Err};
 ghost use Rattle.std.specs.Ordering.{nat_cmp};
 ghost use Rattle.std.specs.FinMap.{find, put};
 ghost use Rattle.std.specs.List.Sorted.{IsStrictlySortedBy};
 ghost use Rattle.std.specs.Map.{keys_of};
 ghost use Rattle.std.specs.Option.{option_map};
-ghost use Rattle.slice_seq.specs.Used.{written_at};
+ghost use Rattle.far_io.specs.Faults.{Follows, HasCause};
 ghost use Rattle.slice_seq.specs.Slice.{raised};
-ghost use Rattle.block_home.specs.Tables.{without};
-ghost use Rattle.slice_seq.specs.Purses.{is_worn};
-ghost use Rattle.block_home.specs.Purses.{next_place, with_block, without_block, place_of, block_in};
-ghost use Rattle.block_home.specs.Noted.{no_moves, noting_placed, noting_freed};
-ghost use Rattle.block_home.specs.Homes.{HomeView, HasBlock, bytes_at, granted_of, used_of, room_of, can_hold, with_slice, IsAlike, empty_home, with_stray, IsNewNumber};
+ghost use Rattle.slice_seq.specs.Used.{written_at};
+ghost use Rattle.block_image.specs.Images.{stamp_for};
+ghost use Rattle.shelf_link.specs.Told.{IsSameKind, is_sure};
+ghost use Rattle.block_seats.specs.Tables.{without};
+ghost use Rattle.block_seats.specs.Blocks.{InSlice, InStore, block_at, was_put};
+ghost use Rattle.block_seats.specs.Purses.{next_place, with_block, without_block, place_of, block_in};
+ghost use Rattle.block_seats.specs.Noted.{no_moves, noting_placed, noting_freed};
+ghost use Rattle.block_seats.specs.Seatings.{SeatingView, HasBlock, IsSeated, bytes_at, length_at, granted_of, used_of, open_of, spare_of, IsAlike, empty_seating, can_hold, with_slice, with_stray, IsNewNumber};
+ghost use Rattle.block_home.specs.Homes.{HomeView, room_of};
+ghost use Rattle.block_home.specs.Stored.{Causes, IsStoreEnd};
+ghost use Rattle.block_home.specs.Holding.{Holds};
+ghost use Rattle.block_home.specs.Calls.{Carries, CarriesWith, CarriesWithout, IsSound, IsPart, IsLoaded, IsReplaced, IsParked, IsKept, KeepsLengths, stamp_at};
 
-use crate::cell::{
-    Cell, copy_part, end_use, free_cells, put_cell, slice_at, used_at, vacant_cells, write_cell,
-};
-use crate::moves::{HomeMoves, PlacedBlock};
-use crate::seat::{
-    Seat, begin_use, block_at, empty_seats, free_seats, insert_open, number_at, put_seat,
-};
-use id_set::IdSet;
+use crate::end::{HomeEnd, StoreFault};
+use crate::stored::{fetch_image, put_image, remove_image};
+use block_image::HEAD;
+use block_seats::{HomeMoves, Seating};
+use far_io::Failed;
+use shelf_link::Shelf;
 use slice_seq::Slice;
 use std::alloc::{AllocError, Global};
 use std::marker::Model;
 
-/// Why a call on a home, or on something that is kept in one, did nothing.
-#[derive(Clone, Copy, PartialEq, Eq, Debug)]
-pub enum HomeEnd {
-    /// So many slices are needed, and fewer are unused: of those that are held so many are used.
-    Exhausted { need: u64, used: u64, granted: u64 },
-    /// No memory was found.
-    NoMemory,
-}
+mod yields;
 
-/// The blocks of one user, each in a slice that the user holds.
+/// The blocks of one user, each in a slice that the user holds or parked in the user's store.
 ///
-/// A block has a number, by which its bytes are found, and 1 to `size` bytes. All room is reserved when the home is
-/// made, and each call takes a few steps and those of its bytes, however many blocks and slices there are.
-pub struct Home {
+/// A block has a number, by which its bytes are found, and 1 to `size` bytes. `new` and `prepare` take memory, and no
+/// other call does. Each call takes a few steps and those of its bytes, however many blocks and slices there are.
+#[derive(Drop)]
+pub struct Home<K> {
     user: u32,
-    size: u32,
-    slices: u32,
-    seats: Vec<Seat>,
-    cells: Vec<Cell>,
-    open_seats: IdSet,
-    empty_seats: IdSet,
-    vacant_cells: IdSet,
-    moves: HomeMoves,
+    seats: Seating,
+    /// Room for one image.
+    image: Vec<u8>,
+    shelf: K,
 }
 
-impl Model for Home {
+impl<K> Model for Home<K> {
+    ghost use Rattle.std.specs.Prelude.{◌≡◌, ◌+◌, ◌≤◌, length};
+    ghost use Rattle.block_image.specs.Images.{head};
     ghost use Rattle.block_home.specs.Homes.{HomeView};
 
-    ghost Value = { HomeView };
+    ghost Value = { HomeView K };
 
-    ghost use Rattle.block_home.specs.Well.{view_of, IsWell};
+    ghost view = { λ h. record { user = h.user; seats = h.seats; shelf = h.shelf } };
 
-    ghost view = { view_of };
-
-    ghost invariant = { IsWell };
+    ghost invariant = { λ h. (length h.image.items ≡ head + h.seats.size) × (h.seats.size ≤ 65536) };
 }
 
-impl Home {
-    /// A home without blocks and slices. `size` is how many bytes a block has at most, and `slices` how many slices
-    /// the home has room for: they have the ids below it.
-    pub fn new(alloc: Global, user: u32, size: u32, slices: u32) -> Result<Home, AllocError>
+impl<K: Shelf + Drop> Home<K> {
+    /// A home without blocks and slices, over a store. `size` is how many bytes a block has at most, and `slices` how
+    /// many slices the home has room for: they have the ids below it.
+    pub fn new(
+        alloc: Global,
+        user: u32,
+        size: u32,
+        slices: u32,
+        shelf: K,
+    ) -> Result<Home<K>, AllocError>
         requires some { 1 ≤ size }
         requires limit { size ≤ 65536 }
-        ensures { IfOk result (λ home. home ≡ empty_home user size slices) }
+        ensures home { IfOk result (λ home. home ≡ record { user = user; seats = empty_seating size slices; shelf = shelf }) }
+        ensures holds { IfOk result (λ home. IsTrue (is_sure (K.told shelf)) → Holds [] (K.told home.shelf) user home.seats.blocks) }
     {
-        let open_seats = IdSet::new(alloc, slices)?;
-        let empty_seats = IdSet::full(alloc, slices)?;
-        let vacant_cells = IdSet::full(alloc, slices)?;
-        let moves = HomeMoves::new(alloc, slices)?;
-        let (seats, cells) = empty_tables(alloc, slices)?;
+        let seats = Seating::new(alloc, size, slices)?;
+        let image = vec![in alloc; 0u8; HEAD + size as usize]?;
         Ok(Home {
             user,
-            size,
-            slices,
             seats,
-            cells,
-            open_seats,
-            empty_seats,
-            vacant_cells,
-            moves,
+            image,
+            shelf,
         })
     }
+}
 
-    /// Makes sure that so many blocks can be placed: after an Ok there is room for them. Exhausted comes exactly where more are needed than held slices are
-    /// unused, and with the purse's own numbers. No memory is taken, as long as each block lies in a slice.
+impl<K: Shelf> Home<K> {
+    /// Makes sure that so many blocks can be placed: after an Ok there is room for them. Exhausted comes exactly where
+    /// more are needed than held slices are unused, and with the purse's own numbers. It takes memory where numbers are
+    /// too few for so many new blocks.
     pub fn prepare(&mut self, need: u64) -> Result<(), HomeEnd>
-        ensures ok { need ≤ room_of self.old → IsOk result }
-        ensures ready { OnOk result (need ≤ room_of self.new) }
-        ensures exhausted { room_of self.old < need → result ≡ Err (HomeEnd.Exhausted need (used_of self.old) (granted_of self.old)) }
-        ensures room { granted_of self.old ≡ used_of self.old + room_of self.old }
-        ensures same { self.new ≡ self.old }
-
-        // What `room` says of each home.
-        ensures resident { (block : ℕ) → HasBlock self.old block → IsSome (place_of self.old.purse block) }
-        ensures ordered { IsStrictlySortedBy nat_cmp (keys_of self.old.purse) }
+        ensures ready { OnOk result (need ≤ room_of self.new.seats) }
+        ensures exhausted { open_of self.old.seats < need → result ≡ Err (HomeEnd.Exhausted need (used_of self.old.seats) (granted_of self.old.seats)) }
+        ensures cause { need ≤ open_of self.old.seats → IsOkUnless result HomeEnd.NoMemory }
+        ensures ok { need ≤ room_of self.old.seats → IsOk result }
+        ensures counts { granted_of self.old.seats ≡ used_of self.old.seats + open_of self.old.seats }
+        ensures more { self.old.seats.numbers ≤ self.new.seats.numbers }
+        ensures rest { self.new ≡ record self.old { seats = record self.old.seats { numbers = self.new.seats.numbers } } }
+        ensures same { OnErr result (self.new ≡ self.old) }
     {
-        if need <= u64::from(self.room()) {
-            return Ok(());
+        if need > u64::from(self.seats.open()) {
+            return Err(HomeEnd::Exhausted {
+                need,
+                used: u64::from(self.seats.used()),
+                granted: u64::from(self.seats.granted()),
+            });
         }
-        Err(HomeEnd::Exhausted {
-            need,
-            used: u64::from(self.used()),
-            granted: u64::from(self.granted()),
-        })
+        match self.seats.reserve(need as u32) {
+            Ok(()) => Ok(()),
+            Err(AllocError) => Err(HomeEnd::NoMemory),
+        }
     }
 
     /// Makes a block of these bytes and places it. The block's number is the lowest that names no block.
     pub fn add(&mut self, bytes: &[u8]) -> u64
-        requires room { 1 ≤ room_of self.old }
+        requires room { 1 ≤ room_of self.old.seats }
         requires some { 1 ≤ length bytes.now }
-        requires fits { length bytes.now ≤ self.old.size }
-        ensures number { IsNewNumber self.old result }
-        ensures blocks { self.new.blocks ≡ put nat_cmp result bytes.now self.old.blocks }
-        ensures purse { self.new.purse ≡ with_block self.old.purse result }
-        ensures places { (block : ℕ) → place_of self.new.purse block ≡ (if block == result then next_place self.old.purse else place_of self.old.purse block) }
-        ensures left { room_of self.new + 1 ≡ room_of self.old }
-        ensures moves { self.new.moves ≡ noting_placed self.old.moves (next_place self.old.purse) result }
-        ensures rest { IsAlike self.old self.new }
+        requires fits { length bytes.now ≤ self.old.seats.size }
+        ensures number { IsNewNumber self.old.seats result }
+        ensures holds { CarriesWith self.old.user result bytes.now (K.told self.old.shelf) self.old.seats.blocks (K.told self.new.shelf) self.new.seats.blocks }
+        ensures blocks { self.new.seats.blocks ≡ put nat_cmp result (InSlice bytes.now false) self.old.seats.blocks }
+        ensures purse { self.new.seats.purse ≡ with_block self.old.seats.purse result }
+        ensures places { (block : ℕ) → place_of self.new.seats.purse block ≡ (if block == result then next_place self.old.seats.purse else place_of self.old.seats.purse block) }
+        ensures left { room_of self.new.seats + 1 ≡ room_of self.old.seats }
+        ensures moves { self.new.seats.moves ≡ noting_placed self.old.seats.moves (next_place self.old.seats.purse) result }
+        ensures alike { IsAlike self.old.seats self.new.seats }
+        ensures rest { self.new ≡ record self.old { seats = self.new.seats } }
     {
-        let Some(slice) = self.open_seats.first() else {
-            unreachable!()
-        };
-        let Some(block) = self.vacant_cells.first() else {
-            unreachable!()
-        };
-        let used = begin_use(&mut self.seats, slice, block, bytes);
-        let number = used.number();
-        put_cell(&mut self.cells, block, used);
-        self.open_seats.remove(slice);
-        self.vacant_cells.remove(block);
-        let block = u64::from(block);
-        self.moves.note_placed(PlacedBlock {
-            slice,
-            number,
-            block,
-        });
-        block
+        self.seats.add(bytes)
     }
 
     /// Writes bytes over a block's own, from place `at` on, and past its end where they reach so far.
     pub fn write(&mut self, block: u64, at: u32, bytes: &[u8])
-        requires resident { IsSome (place_of self.old.purse block) }
-        requires within { at ≤ length (bytes_at self.old block) }
-        requires fits { at + length bytes.now ≤ self.old.size }
-        ensures blocks { self.new.blocks ≡ put nat_cmp block (written_at (bytes_at self.old block) at bytes.now) self.old.blocks }
-        ensures rest { self.new ≡ record self.old { blocks = self.new.blocks } }
+        requires resident { IsSeated self.old.seats block }
+        requires within { at ≤ length_at self.old.seats block }
+        requires fits { at + length bytes.now ≤ self.old.seats.size }
+        ensures holds { CarriesWith self.old.user block (written_at (bytes_at self.old.seats block) at bytes.now) (K.told self.old.shelf) self.old.seats.blocks (K.told self.new.shelf) self.new.seats.blocks }
+        ensures blocks { self.new.seats.blocks ≡ put nat_cmp block (InSlice (written_at (bytes_at self.old.seats block) at bytes.now) (was_put (block_at self.old.seats.blocks block))) self.old.seats.blocks }
+        ensures room { room_of self.new.seats ≡ room_of self.old.seats }
+        ensures rest { self.new ≡ record self.old { seats = record self.old.seats { blocks = self.new.seats.blocks } } }
     {
-        write_cell(&mut self.cells, block, at, bytes);
+        self.seats.write(block, at, bytes);
     }
 
-    /// Reads a part of a block. It answers Ok always, until blocks can lie elsewhere than in slices.
+    /// Reads a part of a block, through the store where it is parked. It takes no slice. After an `Err` `out` is as it
+    /// was.
     pub fn read(&mut self, block: u64, from: u32, out: &mut [u8]) -> Result<(), HomeEnd>
-        requires there { HasBlock self.old block }
-        requires within { from + length out.old ≤ length (bytes_at self.old block) }
-        ensures ok { IsOk result }
-        ensures bytes { out.new ≡ take (length out.old) (drop from (bytes_at self.old block)) }
-        ensures same { self.new ≡ self.old }
+        requires there { HasBlock self.old.seats block }
+        requires within { from + length out.old ≤ length_at self.old.seats block }
+        ensures bytes { OnOk result (IsPart self.old.user block from out.new (K.told self.old.shelf) self.old.seats.blocks) }
+        ensures sound { IsSound self.old.user block (K.told self.old.shelf) self.old.seats.blocks result }
+        ensures cause { Causes (K.faults self.old.shelf) (K.faults self.new.shelf) result }
+        ensures ends { IfErr result IsStoreEnd }
+        ensures away { OnErr result (place_of self.old.seats.purse block ≡ None) }
+        ensures void { IsTrue (K.told self.old.shelf).void → place_of self.old.seats.purse block ≡ None → IsErr result }
+        ensures told { K.told self.new.shelf ≡ K.told self.old.shelf }
+        ensures err { OnErr result (out.new ≡ out.old) }
+        ensures rest { self.new ≡ record self.old { shelf = self.new.shelf } }
     {
-        let used = used_at(&self.cells, block);
-        copy_part(used.read(), from as usize, out);
-        Ok(())
+        let Some(stamp) = self.seats.stamp(block) else {
+            copy_part(self.seats.bytes(block), from as usize, out);
+            return Ok(());
+        };
+        match fetch_image(&mut self.shelf, &mut self.image, block, &stamp) {
+            Ok(()) => {
+                let content = &self.image[HEAD..HEAD + stamp.length as usize];
+                copy_part(content, from as usize, out);
+                Ok(())
+            }
+            Err(end) => Err(end),
+        }
     }
 
-    /// Ends a block. Its slice is free for the next one, under the same number.
-    pub fn cut(&mut self, block: u64)
-        requires { HasBlock self.old block }
-        ensures blocks { self.new.blocks ≡ without block self.old.blocks }
-        ensures purse { self.new.purse ≡ without_block self.old.purse block }
-        ensures places { (other : ℕ) → place_of self.new.purse other ≡ (if other == block then None else place_of self.old.purse other) }
-        ensures left { IfSome (place_of self.old.purse block) (λ place. room_of self.new ≡ room_of self.old + (if is_worn place.1 then 0 else 1)) }
-        ensures moves { self.new.moves ≡ noting_freed self.old.moves (place_of self.old.purse block) }
-        ensures rest { IsAlike self.old self.new }
+    /// Brings a parked block back into a slice. Its image stays in the store. A block that is in a slice stays there.
+    pub fn load(&mut self, block: u64) -> Result<(), HomeEnd>
+        requires there { HasBlock self.old.seats block }
+        requires room { IsSeated self.old.seats block ⊎ (1 ≤ room_of self.old.seats) }
+        ensures holds { Carries self.old.user (K.told self.old.shelf) self.old.seats.blocks (K.told self.new.shelf) self.new.seats.blocks }
+        ensures sound { IsSound self.old.user block (K.told self.old.shelf) self.old.seats.blocks result }
+        ensures cause { Causes (K.faults self.old.shelf) (K.faults self.new.shelf) result }
+        ensures ends { IfErr result IsStoreEnd }
+        ensures away { OnErr result (place_of self.old.seats.purse block ≡ None) }
+        ensures void { IsTrue (K.told self.old.shelf).void → place_of self.old.seats.purse block ≡ None → IsErr result }
+        ensures told { K.told self.new.shelf ≡ K.told self.old.shelf }
+        ensures placed { OnOk result (IsLoaded block self.old.seats self.new.seats) }
+        ensures seated { OnOk result (IsSeated self.new.seats block × (stamp_at self.new.seats.blocks block ≡ None)) }
+        ensures lengths { KeepsLengths self.old.seats self.new.seats }
+        ensures same { OnErr result (self.new.seats ≡ self.old.seats) }
+        ensures rest { self.new ≡ record self.old { seats = self.new.seats; shelf = self.new.shelf } }
     {
-        let freed = end_use(&mut self.cells, block);
-        let id = freed.id();
-        self.moves.note_freed(id, freed.number());
-        insert_open(&mut self.open_seats, &freed);
-        self.vacant_cells.insert(block as u32);
-        put_seat(&mut self.seats, id, Seat::Idle(freed));
+        let Some(stamp) = self.seats.stamp(block) else {
+            return Ok(());
+        };
+        match fetch_image(&mut self.shelf, &mut self.image, block, &stamp) {
+            Ok(()) => {
+                let content = &self.image[HEAD..HEAD + stamp.length as usize];
+                self.seats.place_again(block, content);
+                Ok(())
+            }
+            Err(end) => Err(end),
+        }
+    }
+
+    /// Parks a block: its image is put into the store by one call, and its slice is free. Where the store fails, the block
+    /// stays in its slice. A block that is parked stays so.
+    pub fn park(&mut self, block: u64) -> Result<(), StoreFault>
+        requires { HasBlock self.old.seats block }
+        ensures holds { Carries self.old.user (K.told self.old.shelf) self.old.seats.blocks (K.told self.new.shelf) self.new.seats.blocks }
+        ensures cause { HasCause (K.faults self.old.shelf) (K.faults self.new.shelf) result }
+        ensures kind { IsSameKind (K.told self.old.shelf) (K.told self.new.shelf) }
+        ensures parked { OnOk result (IsParked self.old.user block self.old.seats self.new.seats) }
+        ensures stays { OnErr result (IsKept block self.old.seats self.new.seats) }
+        ensures lengths { KeepsLengths self.old.seats self.new.seats }
+        ensures rest { self.new ≡ record self.old { seats = self.new.seats; shelf = self.new.shelf } }
+    {
+        if self.seats.place(block).is_none() {
+            return Ok(());
+        }
+        match put_image(
+            &mut self.shelf,
+            &mut self.image,
+            self.user,
+            block,
+            self.seats.bytes(block),
+        ) {
+            Ok(stamp) => {
+                self.seats.park(block, stamp);
+                Ok(())
+            }
+            Err(Failed) => {
+                self.seats.note_put(block);
+                Err(StoreFault)
+            }
+        }
+    }
+
+    /// Ends a block. Its slice, if it is in one, is free for the next one, under the same number. The image of a block
+    /// that was ever put is removed by one call, whose failure changes nothing of it: an image that is left is never read.
+    pub fn cut(&mut self, block: u64)
+        requires { HasBlock self.old.seats block }
+        ensures holds { CarriesWithout self.old.user block (K.told self.old.shelf) self.old.seats.blocks (K.told self.new.shelf) self.new.seats.blocks }
+        ensures follows { Follows (K.faults self.old.shelf) (K.faults self.new.shelf) }
+        ensures kind { IsSameKind (K.told self.old.shelf) (K.told self.new.shelf) }
+        ensures never_put { was_put (block_at self.old.seats.blocks block) ≡ false → self.new.shelf ≡ self.old.shelf }
+        ensures blocks { self.new.seats.blocks ≡ without block self.old.seats.blocks }
+        ensures purse { self.new.seats.purse ≡ without_block self.old.seats.purse block }
+        ensures places { (other : ℕ) → place_of self.new.seats.purse other ≡ (if other == block then None else place_of self.old.seats.purse other) }
+        ensures moves { self.new.seats.moves ≡ noting_freed self.old.seats.moves (place_of self.old.seats.purse block) }
+        ensures alike { IsAlike self.old.seats self.new.seats }
+        ensures rest { self.new ≡ record self.old { seats = self.new.seats; shelf = self.new.shelf } }
+    {
+        remove_image(&mut self.shelf, block, self.seats.was_put(block));
+        self.seats.cut(block);
+    }
+
+    /// Makes these bytes a block's bytes, wherever they were: a parked block comes into the next slice.
+    pub fn replace(&mut self, block: u64, bytes: &[u8])
+        requires there { HasBlock self.old.seats block }
+        requires room { IsSeated self.old.seats block ⊎ (1 ≤ room_of self.old.seats) }
+        requires some { 1 ≤ length bytes.now }
+        requires fits { length bytes.now ≤ self.old.seats.size }
+        ensures holds { CarriesWith self.old.user block bytes.now (K.told self.old.shelf) self.old.seats.blocks (K.told self.new.shelf) self.new.seats.blocks }
+        ensures replaced { IsReplaced block bytes.now self.old.seats self.new.seats }
+        ensures rest { self.new ≡ record self.old { seats = self.new.seats } }
+    {
+        if self.seats.place(block).is_some() {
+            self.seats.set(block, bytes);
+        } else {
+            self.seats.place_again(block, bytes);
+        }
     }
 
     /// Takes a slice in, whose number rises by one unless it is worn. A slice that can't be held under its id, since
     /// another of that id is or the home has no room for the id, came out of order: it is kept aside, counts as used
     /// and is never placed.
     pub fn grant(&mut self, slice: Slice)
-        requires size { slice.size ≡ self.old.size }
-        requires room { granted_of self.old < self.old.slices }
-        ensures held { IsTrue (can_hold self.old slice.id) → self.old.strays ≡ 0 → self.new ≡ with_slice self.old slice.id (raised slice.number) }
-        ensures aside { can_hold self.old slice.id ≡ false → self.new ≡ with_stray self.old }
-        ensures either { (self.new ≡ with_slice self.old slice.id (raised slice.number)) ⊎ (self.new ≡ with_stray self.old) }
-        ensures granted { granted_of self.new ≡ granted_of self.old + 1 }
-        ensures places { (block : ℕ) → place_of self.new.purse block ≡ place_of self.old.purse block }
-        ensures rest { self.new ≡ record self.old { purse = self.new.purse; strays = self.new.strays } }
+        requires size { slice.size ≡ self.old.seats.size }
+        requires room { granted_of self.old.seats < self.old.seats.slices }
+        ensures held { IsTrue (can_hold self.old.seats slice.id) → self.old.seats.strays ≡ 0 → self.new.seats ≡ with_slice self.old.seats slice.id (raised slice.number) }
+        ensures aside { can_hold self.old.seats slice.id ≡ false → self.new.seats ≡ with_stray self.old.seats }
+        ensures either { (self.new.seats ≡ with_slice self.old.seats slice.id (raised slice.number)) ⊎ (self.new.seats ≡ with_stray self.old.seats) }
+        ensures granted { granted_of self.new.seats ≡ granted_of self.old.seats + 1 }
+        ensures places { (block : ℕ) → place_of self.new.seats.purse block ≡ place_of self.old.seats.purse block }
+        ensures alike { self.new.seats ≡ record self.old.seats { purse = self.new.seats.purse; strays = self.new.seats.strays } }
+        ensures rest { self.new ≡ record self.old { seats = self.new.seats } }
     {
-        let slice = slice.grant();
-        let id = slice.id();
-        if self.empty_seats.contains(id) {
-            insert_open(&mut self.open_seats, &slice);
-            self.empty_seats.remove(id);
-            put_seat(&mut self.seats, id, Seat::Idle(slice));
-        } else {
-            self.keep_aside(slice);
-        }
+        self.seats.grant(slice);
     }
 
-    /// Keeps a slice at the seat of another id.
-    fn keep_aside(&mut self, slice: Slice)
-        requires { granted_of self.old < self.old.slices }
-        ensures { self.new ≡ with_stray self.old }
+    /// Whether a number names a block.
+    pub fn has(&self, block: u64) -> bool
+        ensures { result ≡ is_some (find nat_cmp block self.now.seats.blocks) }
     {
-        let Some(id) = self.empty_seats.first() else {
-            unreachable!()
-        };
-        self.empty_seats.remove(id);
-        put_seat(&mut self.seats, id, Seat::Stray(slice));
+        self.seats.has(block)
     }
 
-    /// How many bytes a block has.
+    /// How many bytes a block has, wherever it is.
     pub fn length(&self, block: u64) -> u32
-        requires { HasBlock self.now block }
-        ensures { result ≡ length (bytes_at self.now block) }
+        requires { HasBlock self.now.seats block }
+        ensures value { result ≡ length_at self.now.seats block }
+        ensures some { 1 ≤ result }
+        ensures limit { result ≤ self.now.seats.size }
     {
-        used_at(&self.cells, block).length()
+        self.seats.length(block)
     }
 
-    /// The slice that a block lies in, and the slice's number. None where there is no such block: each block lies in a
-    /// slice, until blocks can lie elsewhere.
+    /// The slice that a block lies in, and the slice's number. None where there is no such block, or it is parked.
     pub fn place(&self, block: u64) -> Option<(u32, u64)>
-        ensures place { result ≡ place_of self.now.purse block }
-        ensures resident { HasBlock self.now block → IsSome result }
-        ensures there { IsSome result → HasBlock self.now block }
+        ensures place { result ≡ place_of self.now.seats.purse block }
+        ensures there { IsSome result → HasBlock self.now.seats block }
+        ensures unstamped { IsSome result → stamp_at self.now.seats.blocks block ≡ None }
     {
-        slice_at(&self.cells, block)
+        self.seats.place(block)
     }
 
     /// The block that lies in a slice, and the slice's number. None where no block does.
     pub fn block_at(&self, slice: u32) -> Option<(u64, u64)>
-        ensures { result ≡ block_in self.now.purse slice }
+        ensures { result ≡ block_in self.now.seats.purse slice }
     {
-        block_at(&self.seats, slice)
+        self.seats.block_at(slice)
     }
 
     /// The number of a held slice. None where none of that id is held.
     pub fn number(&self, slice: u32) -> Option<u64>
-        ensures { result ≡ option_map (λ held. held.number) (find nat_cmp slice self.now.purse) }
+        ensures { result ≡ option_map (λ held. held.number) (find nat_cmp slice self.now.seats.purse) }
     {
-        number_at(&self.seats, slice)
+        self.seats.number(slice)
     }
 
     /// How many bytes a block has at most.
     pub fn size(&self) -> u32
-        ensures value { result ≡ self.now.size }
-        ensures some { 1 ≤ self.now.size }
-        ensures limit { self.now.size ≤ 65536 }
+        ensures value { result ≡ self.now.seats.size }
+        ensures some { 1 ≤ self.now.seats.size }
+        ensures limit { self.now.seats.size ≤ 65536 }
     {
-        self.size
+        self.seats.size()
     }
 
     /// How many of the held slices can't take a block: those with one, and the worn ones.
     pub fn used(&self) -> u32
-        ensures { result ≡ used_of self.now }
+        ensures { result ≡ used_of self.now.seats }
     {
-        self.granted() - self.room()
+        self.seats.used()
     }
 
     /// How many slices are held.
     pub fn granted(&self) -> u32
-        ensures { result ≡ granted_of self.now }
+        ensures { result ≡ granted_of self.now.seats }
     {
-        self.slices - self.empty_seats.count()
+        self.seats.granted()
+    }
+
+    /// How many new blocks can be placed without memory.
+    pub fn room(&self) -> u32
+        ensures value { result ≡ room_of self.now.seats }
+        ensures ordered { IsStrictlySortedBy nat_cmp (keys_of self.now.seats.purse) }
+    {
+        self.seats.open().min(self.seats.spare())
     }
 
     /// Whether as many slices are held as the home has room for. While none is kept aside, no slice can be held then.
     pub fn is_full(&self) -> bool
-        ensures full { IsTrue result ↔ (self.now.slices ≤ granted_of self.now) }
-        ensures open { (slice : ℕ) → IsTrue (can_hold self.now slice) → self.now.strays ≡ 0 → result ≡ false }
+        ensures full { IsTrue result ↔ (self.now.seats.slices ≤ granted_of self.now.seats) }
+        ensures open { (slice : ℕ) → IsTrue (can_hold self.now.seats slice) → self.now.seats.strays ≡ 0 → result ≡ false }
     {
-        self.empty_seats.count() == 0
-    }
-
-    /// How many blocks can be placed. Each block lies in a slice, and the slices stand in the order of their ids.
-    pub fn room(&self) -> u32
-        ensures value { result ≡ room_of self.now }
-        ensures resident { (block : ℕ) → HasBlock self.now block → IsSome (place_of self.now.purse block) }
-        ensures ordered { IsStrictlySortedBy nat_cmp (keys_of self.now.purse) }
-    {
-        self.open_seats.count()
+        self.seats.is_full()
     }
 
     /// The moves since they were cleared last.
     pub fn moves(&self) -> &HomeMoves
-        ensures { result.now ≡ self.now.moves }
+        ensures { result.now ≡ self.now.seats.moves }
     {
-        &self.moves
+        self.seats.moves()
     }
 
     /// Forgets the moves.
     pub fn clear_moves(&mut self)
-        ensures { self.new ≡ record self.old { moves = no_moves self.old.moves.most } }
+        ensures { self.new ≡ record self.old { seats = record self.old.seats { moves = no_moves self.old.seats.moves.most } } }
     {
-        self.moves.clear();
+        self.seats.clear_moves();
     }
 }
 
-impl Drop for Home {
-    /// Gives the memory of all slices back.
-    fn drop(self) {
-        let Home {
-            user: _,
-            size: _,
-            slices: _,
-            seats,
-            cells,
-            open_seats: _,
-            empty_seats: _,
-            vacant_cells: _,
-            moves: _,
-        } = self;
-        free_seats(seats);
-        free_cells(cells);
-    }
-}
-
-/// Tables in which no slice is held and no block is.
-fn empty_tables(alloc: Global, count: u32) -> Result<(Vec<Seat>, Vec<Cell>), AllocError>
-    ensures seats { IfOk result (λ tables. tables.0.items ≡ replicate count Seat.Empty) }
-    ensures cells { IfOk result (λ tables. tables.1.items ≡ replicate count Cell.Vacant) }
+/// Copies a part of a block's bytes, from place `from` on, over all of `out`.
+fn copy_part(bytes: &[u8], from: usize, out: &mut [u8])
+    requires { from + length out.old ≤ length bytes.now }
+    ensures { out.new ≡ take (length out.old) (drop from bytes.now) }
 {
-    let seats = empty_seats(alloc, count)?;
-    match vacant_cells(alloc, count) {
-        Ok(cells) => Ok((seats, cells)),
-        Err(error) => {
-            free_seats(seats);
-            Err(error)
-        }
-    }
+    let end = from + out.len();
+    out.copy_from_slice(&bytes[from..end]);
 }

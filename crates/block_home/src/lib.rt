@@ -1,15 +1,16 @@
-//! A user's home: blocks of bytes, each in a slice of its own, and the slices that the user holds.
+//! A user's home: blocks of bytes, each in a slice of its own or parked in the user's store.
 //!
-//! Contracts see a home as a finite map from block numbers to bytes. Beside it they see the purse: the held slices by
-//! id, each with its number and the block that lies in it. The rules of slices and blocks are those of docs/RULES.md.
+//! Contracts see the blocks, the slices and the store of a home, and speak of every map from block numbers to bytes that
+//! these hold: one clause serves stores that tell their content, stores that are void, and stores that tell nothing. The
+//! rules of slices and blocks are those of docs/RULES.md.
 #![tactic(auto)]
 
-mod cell;
+mod end;
 mod home;
-mod moves;
-mod seat;
+mod stored;
 #[cfg(test)]
 mod tests;
 
-pub use home::{Home, HomeEnd};
-pub use moves::{HomeMoves, PlacedBlock};
+pub use block_seats::{HomeMoves, PlacedBlock};
+pub use end::{HomeEnd, StoreFault, YieldEnd};
+pub use home::Home;

@@ -1,166 +1,171 @@
-//! Blocks of a home of a few slices.
+//! Blocks that are parked and come back, over stores of each kind.
 ghost use Rattle.std.specs.Prelude.{◌≡◌, ◌≤◌, IfOk};
-ghost use Rattle.slice_seq.specs.declared.TheConstants.{WORN};
 
-use crate::{Home, HomeEnd, PlacedBlock};
-use slice_seq::{Slice, WORN};
+use crate::{Home, HomeEnd, StoreFault, YieldEnd};
+use far_words::{Found, Stamp};
+use shelf_link::{NullShelf, Shelf, ShelfMem};
+use slice_seq::Slice;
 use std::alloc::{AllocError, Global};
 use std::process::Abort;
 use std::test::Fail;
 
-/// A home with room for three slices of 64 bytes.
-fn new_home(alloc: Global) -> Result<Home, AllocError>
-    ensures { IfOk result (λ home. home.slices ≡ 3) }
-{
-    Home::new(alloc, 0, 64, 3)
+/// The SHA-256 of the one byte A.
+const DIGEST_OF_A: [u8; 32] = [
+    0x55, 0x9a, 0xea, 0xd0, 0x82, 0x64, 0xd5, 0x79, 0x5d, 0x39, 0x09, 0x71, 0x8c, 0xdd, 0x05, 0xab,
+    0xd4, 0x95, 0x72, 0xe8, 0x4f, 0xe5, 0x55, 0x90, 0xee, 0xf3, 0x1a, 0x88, 0xa0, 0x8f, 0xdf, 0xfd,
+];
+
+/// A home with room for two slices of 64 bytes, which are held.
+fn new_home<K: Shelf + Drop>(
+    rt: &impl Abort,
+    alloc: Global,
+    shelf: K,
+) -> Result<Home<K>, AllocError> {
+    let mut home = Home::new(alloc, 7, 64, 2, shelf)?;
+    for id in 0..2 {
+        let slice = Slice::fresh(alloc, id, 64, 0)?;
+        if slice.size() == home.size() && !home.is_full() {
+            home.grant(slice);
+        } else {
+            slice.free();
+        }
+    }
+    assert!(rt; home.granted() == 2);
+    Ok(home)
 }
 
-fn give(rt: &impl Abort, home: &mut Home, slice: Slice)
-    requires { home.old.slices ≡ 3 }
-    ensures { home.new.slices ≡ 3 }
-{
-    assert!(rt; slice.size() == home.size());
-    assert!(rt; home.granted() < 3);
-    home.grant(slice);
-}
-
-fn add(rt: &impl Abort, home: &mut Home, bytes: &[u8]) -> u64
-    ensures { home.new.slices ≡ home.old.slices }
-{
+fn add<K: Shelf>(rt: &impl Abort, home: &mut Home<K>, bytes: &[u8]) -> u64 {
+    assert!(rt; home.prepare(1).is_ok());
     assert!(rt; home.room() >= 1);
     assert!(rt; !bytes.is_empty() && bytes.len() <= home.size() as usize);
     home.add(bytes)
 }
 
-fn cut(rt: &impl Abort, home: &mut Home, block: u64)
-    ensures { home.new.slices ≡ home.old.slices }
-{
-    assert!(rt; home.place(block).is_some());
+fn park<K: Shelf>(rt: &impl Abort, home: &mut Home<K>, block: u64) -> Result<(), StoreFault> {
+    assert!(rt; home.has(block));
+    home.park(block)
+}
+
+fn load<K: Shelf>(rt: &impl Abort, home: &mut Home<K>, block: u64) -> Result<(), HomeEnd> {
+    assert!(rt; home.has(block) && home.room() >= 1);
+    home.load(block)
+}
+
+fn read<K: Shelf>(
+    rt: &impl Abort,
+    home: &mut Home<K>,
+    block: u64,
+    out: &mut [u8],
+) -> Result<(), HomeEnd> {
+    assert!(rt; home.has(block) && out.len() <= home.length(block) as usize);
+    home.read(block, 0, out)
+}
+
+fn cut<K: Shelf>(rt: &impl Abort, home: &mut Home<K>, block: u64) {
+    assert!(rt; home.has(block));
     home.cut(block);
 }
 
-fn write(rt: &impl Abort, home: &mut Home, block: u64, at: u32, bytes: &[u8])
-    requires { at ≤ 64 }
-    ensures { home.new.slices ≡ home.old.slices }
-{
-    assert!(rt; home.place(block).is_some());
-    assert!(rt; at <= home.length(block) && bytes.len() <= 64);
-    assert!(rt; at as usize + bytes.len() <= home.size() as usize);
-    home.write(block, at, bytes);
-}
-
-/// Reads from a place to the block's end.
-fn expect_bytes(rt: &impl Abort, home: &mut Home, block: u64, from: u32, expected: &[u8])
-    requires { from ≤ 64 }
-    ensures { home.new ≡ home.old }
-{
-    let mut out = [0u8; 64];
-    let count = expected.len();
-    assert!(rt; count <= 64);
-    assert!(rt; home.place(block).is_some());
-    assert!(rt; home.length(block) as usize == from as usize + count);
-    assert!(rt; home.read(block, from, &mut out[..count]).is_ok());
-    assert!(rt; &out[..count] == expected);
+/// The id and the number of a slice that a yield gives.
+fn yield_one<K: Shelf>(home: &mut Home<K>) -> Result<Option<(u32, u64)>, StoreFault> {
+    match home.yield_one() {
+        YieldEnd::Slice(slice) => {
+            let place = (slice.id(), slice.number());
+            slice.free();
+            Ok(Some(place))
+        }
+        YieldEnd::NoneHeld => Ok(None),
+        YieldEnd::StoreFault => Err(StoreFault),
+    }
 }
 
 #[test]
-fn keeps_blocks_in_the_lowest_slices(rt: HostRuntime) -> Result<(), Fail> {
-    let mut home = new_home(rt.alloc())?;
-    give(&rt, &mut home, Slice::fresh(rt.alloc(), 2, 64, 0)?);
-    give(&rt, &mut home, Slice::fresh(rt.alloc(), 0, 64, 4)?);
-    assert_eq!(rt; home.prepare(2), Ok(()));
-    assert_eq!(rt;
-        home.prepare(3),
-        Err(HomeEnd::Exhausted {
-            need: 3,
-            used: 0,
-            granted: 2
-        })
-    );
-
+fn parks_and_loads(rt: HostRuntime) -> Result<(), Fail> {
+    let fails = Vec::new(rt.alloc());
+    let mut home = new_home(&rt, rt.alloc(), ShelfMem::new(rt.alloc(), fails))?;
     assert_eq!(rt; add(&rt, &mut home, b"ab"), 0);
     assert_eq!(rt; add(&rt, &mut home, b"c"), 1);
-    assert_eq!(rt;
-        (home.place(0), home.place(1), home.place(2)),
-        (Some((0, 6)), Some((2, 2)), None)
-    );
-    assert_eq!(rt; (home.block_at(2), home.block_at(1)), (Some((1, 2)), None));
-    assert_eq!(rt; (home.used(), home.granted(), home.room()), (2, 2, 0));
-    write(&rt, &mut home, 0, 1, b"xyz");
-    expect_bytes(&rt, &mut home, 0, 0, b"axyz");
-    expect_bytes(&rt, &mut home, 0, 2, b"yz");
-    expect_bytes(&rt, &mut home, 1, 0, b"c");
+    assert_eq!(rt; home.room(), 0);
+    assert_eq!(rt; park(&rt, &mut home, 0), Ok(()));
+    assert_eq!(rt; (home.place(0), home.place(1)), (None, Some((1, 2))));
+    assert_eq!(rt; (home.used(), home.room()), (1, 0));
 
-    cut(&rt, &mut home, 0);
-    assert_eq!(rt;
-        (home.place(0), home.number(0), home.room()),
-        (None, Some(6), 1)
-    );
-    assert_eq!(rt; home.moves().freed(), [(0, 6)].as_slice());
-    assert_eq!(rt;
-        home.moves().placed(),
-        [
-            PlacedBlock {
-                slice: 0,
-                number: 6,
-                block: 0
-            },
-            PlacedBlock {
-                slice: 2,
-                number: 2,
-                block: 1
-            },
-        ]
-        .as_slice()
-    );
+    let mut out = [0u8; 2];
+    assert_eq!(rt; read(&rt, &mut home, 0, &mut out), Ok(()));
+    assert!(rt; out == *b"ab");
+    assert_eq!(rt; home.place(0), None, "a read takes no slice");
+
+    // A third block needs a number besides, and takes the slice that the park left.
+    assert_eq!(rt; add(&rt, &mut home, b"d"), 2);
+    assert_eq!(rt; home.place(2), Some((0, 3)));
+    assert_eq!(rt; park(&rt, &mut home, 1), Ok(()));
+    assert_eq!(rt; home.prepare(1), Ok(()));
+    assert_eq!(rt; load(&rt, &mut home, 0), Ok(()));
+    assert_eq!(rt; home.place(0), Some((1, 3)));
+    cut(&rt, &mut home, 1);
+    assert!(rt; !home.has(1));
+    Ok(())
+}
+
+#[test]
+fn keeps_a_block_that_the_store_did_not_take(rt: HostRuntime) -> Result<(), Fail> {
+    let mut fails = Vec::new(rt.alloc());
+    fails.push(0)?;
+    fails.push(2)?;
+    let mut home = new_home(&rt, rt.alloc(), ShelfMem::new(rt.alloc(), fails))?;
+    assert_eq!(rt; add(&rt, &mut home, b"ab"), 0);
+    assert_eq!(rt; park(&rt, &mut home, 0), Err(StoreFault));
+    assert_eq!(rt; home.place(0), Some((0, 2)));
+    assert_eq!(rt; park(&rt, &mut home, 0), Ok(()));
+    let mut out = [0u8; 2];
+    assert_eq!(rt; read(&rt, &mut home, 0, &mut out), Err(HomeEnd::StoreFault));
+    assert_eq!(rt; read(&rt, &mut home, 0, &mut out), Ok(()));
+    assert!(rt; out == *b"ab");
+    Ok(())
+}
+
+#[test]
+fn yields_what_is_idle_and_parks_then(rt: HostRuntime) -> Result<(), Fail> {
+    let mut fails = Vec::new(rt.alloc());
+    fails.push(0)?;
+    let mut home = new_home(&rt, rt.alloc(), ShelfMem::new(rt.alloc(), fails))?;
+    assert_eq!(rt; add(&rt, &mut home, b"hi"), 0);
     home.clear_moves();
-    assert!(rt; home.moves().freed().is_empty() && home.moves().placed().is_empty());
-    assert_eq!(rt; add(&rt, &mut home, b"d"), 0);
-    assert_eq!(rt; home.place(0), Some((0, 7)));
+    assert_eq!(rt; yield_one(&mut home), Ok(Some((1, 1))));
+    assert_eq!(rt; yield_one(&mut home), Err(StoreFault));
+    assert_eq!(rt; (home.place(0), home.granted()), (Some((0, 2)), 1));
+    assert_eq!(rt; yield_one(&mut home), Ok(Some((0, 2))));
+    assert_eq!(rt; home.moves().freed(), [(0, 2)].as_slice());
+    assert_eq!(rt; yield_one(&mut home), Ok(None));
+    let mut out = [0u8; 2];
+    assert_eq!(rt; read(&rt, &mut home, 0, &mut out), Ok(()));
+    assert!(rt; out == *b"hi");
     Ok(())
 }
 
 #[test]
-fn never_places_a_block_in_a_worn_slice(rt: HostRuntime) -> Result<(), Fail> {
-    let mut home = new_home(rt.alloc())?;
-    give(
-        &rt,
-        &mut home,
-        Slice::fresh(rt.alloc(), 0, 64, 9_223_372_036_854_775_806)?,
-    );
-    assert_eq!(rt; add(&rt, &mut home, b"last"), 0);
-    assert_eq!(rt; home.place(0), Some((0, 9_223_372_036_854_775_808)));
-    cut(&rt, &mut home, 0);
+fn finds_nothing_in_a_void_store(rt: HostRuntime) -> Result<(), Fail> {
+    let fails = Vec::new(rt.alloc());
+    let mut home = new_home(&rt, rt.alloc(), NullShelf::new(fails))?;
+    assert_eq!(rt; add(&rt, &mut home, b"A"), 0);
+    assert_eq!(rt; park(&rt, &mut home, 0), Ok(()));
+    let kept = Stamp {
+        user: 7,
+        block: 0,
+        length: 1,
+        digest: DIGEST_OF_A,
+    };
+    let found = Found::Absent;
+    let mut out = [0u8; 1];
     assert_eq!(rt;
-        home.prepare(1),
-        Err(HomeEnd::Exhausted {
-            need: 1,
-            used: 1,
-            granted: 1
-        })
+        read(&rt, &mut home, 0, &mut out),
+        Err(HomeEnd::Damaged { kept, found })
     );
-    give(
-        &rt,
-        &mut home,
-        Slice::fresh(rt.alloc(), 1, 64, 9_223_372_036_854_775_808)?,
+    assert_eq!(rt;
+        load(&rt, &mut home, 0),
+        Err(HomeEnd::Damaged { kept, found })
     );
-    assert_eq!(rt; home.number(1), Some(9_223_372_036_854_775_808));
-    assert_eq!(rt; (home.used(), home.granted(), home.room()), (2, 2, 0));
-    give(&rt, &mut home, Slice::fresh(rt.alloc(), 2, 64, 0)?);
-    assert_eq!(rt; add(&rt, &mut home, b"next"), 0);
-    assert_eq!(rt; home.place(0), Some((2, 2)));
-    Ok(())
-}
-
-#[test]
-fn keeps_a_slice_aside_that_comes_out_of_order(rt: HostRuntime) -> Result<(), Fail> {
-    let mut home = new_home(rt.alloc())?;
-    give(&rt, &mut home, Slice::fresh(rt.alloc(), 1, 64, 0)?);
-    give(&rt, &mut home, Slice::fresh(rt.alloc(), 1, 64, 5)?);
-    give(&rt, &mut home, Slice::fresh(rt.alloc(), 9, 64, 0)?);
-    assert_eq!(rt; (home.used(), home.granted(), home.room()), (2, 3, 1));
-    assert_eq!(rt; (home.number(1), home.number(9)), (Some(1), None));
-    assert_eq!(rt; add(&rt, &mut home, b"x"), 0);
-    assert_eq!(rt; home.place(0), Some((1, 2)));
+    assert!(rt; home.has(0));
+    assert_eq!(rt; home.length(0), 1);
     Ok(())
 }

@@ -5,6 +5,8 @@ use Rattle.sha2.specs.Sha256.{sha256}
 use Rattle.far_words.specs.declared.stamp.Stamp.{Stamp}
 use Rattle.far_words.specs.declared.stamp.ImageFault.{ImageFault}
 use Rattle.far_words.specs.declared.stamp.ImageFault.TheVariants.{Short, Magic, Version, Length, Digest}
+use Rattle.far_words.specs.declared.stamp.Found.{Found}
+use Rattle.far_words.specs.declared.stamp.Found.TheVariants.{Other}
 
 -- how many bytes stand before the content, and how many the content has at most
 abbrev pub head : ℕ
@@ -91,3 +93,8 @@ IsFault bytes Magic = HasOtherMagic bytes
 IsFault bytes (Version found) = HasOtherVersion bytes found
 IsFault bytes (Length said have) = HasOtherLength bytes said have
 IsFault bytes (Digest kept found) = HasOtherDigest bytes kept found
+
+-- what isn't the image with this stamp: an image that is found has another one
+abbrev pub IsFoundInstead : Stamp → Found → Type 0
+IsFoundInstead kept (Other stamp) = stamp ≢ kept
+IsFoundInstead kept found = Unit {0}

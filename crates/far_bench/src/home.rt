@@ -1,13 +1,14 @@
-//! A home and a file in it: appends and reads of one size, beside so many blocks.
+//! A home over a store in memory, and a file in it: appends and reads of one size, beside so many blocks, none of them parked.
 
-ghost use Rattle.std.specs.Prelude.{◌≡◌, ◌≤◌};
-ghost use Rattle.block_home.specs.Homes.{granted_of};
+ghost use Rattle.std.specs.Prelude.{◌≡◌, ◌≤◌, IfOk};
+ghost use Rattle.block_seats.specs.Seatings.{granted_of};
 ghost use Rattle.block_file.specs.Files.{IsSound};
 
 use crate::words::read_number;
 use block_file::FileBody;
 use block_home::Home;
 use far_words::{Blob, MOST_IN_FILE};
+use shelf_link::{Shelf, ShelfMem};
 use slice_seq::Slice;
 use std::alloc::{AllocError, Global};
 use std::rt::Clock;
@@ -68,12 +69,14 @@ pub fn little() -> HomeWork {
     }
 }
 
-// A home that holds all slices that it has room for.
-fn full_home(alloc: Global, size: u32, slices: u32) -> Result<Home, AllocError>
+/// A home that holds all slices that it has room for, over a store in memory.
+pub fn full_home(alloc: Global, size: u32, slices: u32) -> Result<Home<ShelfMem>, AllocError>
     requires some { 1 ≤ size }
     requires limit { size ≤ 65536 }
+    ensures size { IfOk result (λ home. home.seats.size ≡ size) }
 {
-    let mut home = Home::new(alloc, 0, size, slices)?;
+    let shelf = ShelfMem::new(alloc, Vec::new(alloc));
+    let mut home = Home::new(alloc, 0, size, slices, shelf)?;
     for id in 0..slices {
         let slice = Slice::fresh(alloc, id, size, 0)?;
         home.grant(slice);
@@ -82,9 +85,9 @@ fn full_home(alloc: Global, size: u32, slices: u32) -> Result<Home, AllocError>
 }
 
 // Appends the bytes so many times. False says that the home or the memory was exhausted.
-fn append_all(file: &mut FileBody, home: &mut Home, bytes: &[u8], times: u64) -> bool
-    requires sound { IsSound home.old file.old }
-    ensures sound { IsSound home.new file.new }
+fn append_all<K: Shelf>(file: &mut FileBody, home: &mut Home<K>, bytes: &[u8], times: u64) -> bool
+    requires sound { IsSound home.old.seats file.old }
+    ensures sound { IsSound home.new.seats file.new }
 {
     for _call in 0..times {
         let length = bytes.len() as u64;
@@ -100,15 +103,15 @@ fn append_all(file: &mut FileBody, home: &mut Home, bytes: &[u8], times: u64) ->
 }
 
 // Reads so many bytes at places that are spread over the file, and adds up the first of each.
-fn read_all(
+fn read_all<K: Shelf>(
     file: &mut FileBody,
-    home: &mut Home,
+    home: &mut Home<K>,
     alloc: Global,
     piece: u32,
     times: u64,
 ) -> Option<u64>
-    requires sound { IsSound home.old file.old }
-    ensures sound { IsSound home.new file.new }
+    requires sound { IsSound home.old.seats file.old }
+    ensures sound { IsSound home.new.seats file.new }
 {
     let mut out = Blob::new(alloc);
     let mut sum = 0u64;
@@ -123,11 +126,9 @@ fn read_all(
     Some(sum)
 }
 
-fn new_file(alloc: Global, home: &Home) -> FileBody
-    ensures { IsSound home.now result }
+fn new_file<K>(alloc: Global, _home: &Home<K>) -> FileBody
+    ensures { IsSound _home.now.seats result }
 {
-    let size = home.size();
-    prove!(size > 0);
     FileBody::new(alloc)
 }
 

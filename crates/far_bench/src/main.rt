@@ -1,13 +1,14 @@
-//! Measures a home with a file in it, a turn cell beside a mutex, Karma's rule, images and a shelf in a folder, and frames.
+//! Measures a home with a file in it, blocks that are parked, a turn cell beside a mutex, Karma's rule, images and a shelf in a folder, and frames.
 //!
-//! The words are `home SIZE BLOCKS PIECE CALLS`, `cell THREADS CALLS`, `mutex THREADS CALLS`, `quantum USERS QUANTA TIMES SEED`, `image BYTES TIMES`,
-//! `dir FOLDER BLOCKS`, `frames WHAT SIZE CALLS` or `check`. The last makes a little of each, and prints what is the same on every machine: counts and
+//! The words are `home SIZE BLOCKS PIECE CALLS`, `parks SIZE BLOCKS CALLS`, `cell THREADS CALLS`, `mutex THREADS CALLS`, `quantum USERS QUANTA TIMES SEED`,
+//! `image BYTES TIMES`, `dir FOLDER BLOCKS`, `frames WHAT SIZE CALLS` or `check`. The last makes a little of each, and prints what is the same on every machine: counts and
 //! results, and no time. `decode` answers lines of its input, each a frame, for a check by another program.
 #![tactic(auto)]
 
 mod frame_lines;
 mod frames;
 mod home;
+mod parks;
 mod quantum;
 mod store;
 mod threads;
@@ -17,6 +18,7 @@ mod worker;
 use far_io::ReadSource;
 use frames::FrameWork;
 use home::HomeWork;
+use parks::ParkWork;
 use quantum::QuantumWork;
 use std::env;
 use std::process::ExitCode;
@@ -31,6 +33,7 @@ use words::{nanos_each, read_number};
 #[derive(Clone, Copy)]
 enum Work {
     Home(HomeWork),
+    Parks(ParkWork),
     Threads(ThreadWork),
     Quantum(QuantumWork),
     Image(ImageWork),
@@ -43,6 +46,7 @@ enum Work {
 fn read_work(words: &[String]) -> Option<Work> {
     match words.get(0)?.as_str() {
         "home" => Some(Work::Home(home::read_work(words)?)),
+        "parks" => Some(Work::Parks(parks::read_work(words)?)),
         "cell" => Some(Work::Threads(threads::read_work(words, Kind::Cell)?)),
         "mutex" => Some(Work::Threads(threads::read_work(words, Kind::Mutex)?)),
         "quantum" => Some(Work::Quantum(quantum::read_work(words)?)),
@@ -66,6 +70,24 @@ fn measure_home<R: Clock + AllocGlobal + Print>(
     let append = nanos_each(times.appends, u64::from(work.calls));
     let read = nanos_each(times.reads, u64::from(work.calls));
     println!(rt; "length {} append {append} ns read {read} ns", times.length)?;
+    Ok(ExitCode::from(0))
+}
+
+fn measure_parks<R: Clock + AllocGlobal + Print>(
+    rt: &R,
+    work: ParkWork,
+) -> anyhow::Result<ExitCode> {
+    let times = parks::measure(rt, work)?;
+    let calls = u64::from(work.calls);
+    println!(rt;
+        "parked {} read {} loaded {} park {} ns read {} ns load {} ns",
+        times.parked,
+        times.read,
+        times.loaded,
+        nanos_each(times.parks, calls),
+        nanos_each(times.reads, calls),
+        nanos_each(times.loads, calls)
+    )?;
     Ok(ExitCode::from(0))
 }
 
@@ -175,6 +197,11 @@ fn check<R: Clock + AllocGlobal + Print + Threads + Wait + Sync>(
         }
         None => println!(rt; "home: full")?,
     }
+    let parked = parks::measure(rt, parks::little())?;
+    println!(rt;
+        "parks: {} parked, {} read, {} loaded",
+        parked.parked, parked.read, parked.loaded
+    )?;
     for kind in [Kind::Cell, Kind::Mutex] {
         let work = ThreadWork {
             kind,
@@ -217,6 +244,7 @@ fn main(rt: HostRuntime) -> anyhow::Result<ExitCode> {
     }
     match read_work(words.as_slice()) {
         Some(Work::Home(work)) => measure_home(&rt, work),
+        Some(Work::Parks(work)) => measure_parks(&rt, work),
         Some(Work::Threads(work)) => measure_threads(&rt, work),
         Some(Work::Quantum(work)) => measure_quantum(&rt, work),
         Some(Work::Image(work)) => measure_images(&rt, work),
@@ -226,7 +254,7 @@ fn main(rt: HostRuntime) -> anyhow::Result<ExitCode> {
         Some(Work::Check) => check(&rt),
         None => {
             eprintln!(rt;
-                "words: home SIZE BLOCKS PIECE CALLS, cell THREADS CALLS, mutex THREADS CALLS, quantum USERS QUANTA TIMES SEED, image BYTES TIMES, dir FOLDER BLOCKS, frames WHAT SIZE CALLS, decode, or check"
+                "words: home SIZE BLOCKS PIECE CALLS, parks SIZE BLOCKS CALLS, cell THREADS CALLS, mutex THREADS CALLS, quantum USERS QUANTA TIMES SEED, image BYTES TIMES, dir FOLDER BLOCKS, frames WHAT SIZE CALLS, decode, or check"
             )?;
             Ok(ExitCode::from(2))
         }

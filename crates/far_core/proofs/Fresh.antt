@@ -1,22 +1,21 @@
 -- No user's history names a later number for a slice of the pool or the hand.
-use Rattle.std.proofs.Common.{◌≡◌, ℕ, ◌+◌, ◌==◌, ◌<◌, ◌≤◌, nat_lt, Bool, true, false, cond, List, [], ◌∷◌, ◌++◌, All, length, drop, get_or, replicate, sum_by, append_assoc, refl, sym, subst, ap, ◌∙◌, arith}
+use Rattle.std.proofs.Common.{◌≡◌, ℕ, ◌+◌, ◌==◌, ◌<◌, ◌≤◌, nat_lt, Bool, true, false, cond, List, [], ◌∷◌, ◌++◌, length, drop, get_or, replicate, sum_by, append_assoc, refl, sym, subst, ap, ◌∙◌, arith}
 use Rattle.std.proofs.lemmas.Bool.{eqb-true, eqb-false, ltb-true, ltb-false}
 use Rattle.std.proofs.lemmas.List.{get_or-set_same, get_or-set_other, length-set, length-replicate, get_or-replicate, get_or_past, append-nil}
-use Rattle.std.proofs.lemmas.List.Sums.{get_or-le-sum_by}
-use Rattle.std.proofs.lemmas.List.Elements.{All-get_or}
 use Rattle.karma_rule.specs.declared.shape.Shape.{Shape}
 use Rattle.far_words.specs.declared.request.Reply.TheVariants.{AbsentUser}
 use Rattle.far_words.specs.declared.request.Outcome.TheVariants.{Reply as Replied, Slice}
 use Rattle.far_history.specs.Entries.{Event, Ask, Grant, Entry}
-use Rattle.far_history.specs.Histories.{Past, past_of, first_past, named_for, InOrder, count_in}
-use Rattle.far_history.specs.Legal.{MayFollow, IsLegalHistory}
-use Rattle.far_history.proofs.Grows.{past_of-push, last_follows}
+use Rattle.far_history.specs.Histories.{Terms, Past, past_of, first_past, named_for, count_in}
+use Rattle.far_history.specs.Legal.{IsMovedEntry}
+use Rattle.far_history.proofs.Grows.{past_of-push, last_has}
 use Rattle.far_history.proofs.Slices.{count_brought, count_in-cons, find-uncounted, named_for-after}
 use Rattle.tenant_world.specs.Views.{terms_of}
 use Rattle.far_core.specs.declared.service.CoreEvent.{CoreEvent}
 use Rattle.far_core.specs.declared.service.CoreEvent.TheVariants.{Ask as Asking, Draw, Grant as Granting}
-use Rattle.far_core.specs.Runs.{CoreEntry, CoreState, Turn, Own, Answered, draw_from, grant_from, turn_of, own_entry, with_entry, hand_after, after_turn, core_after, purse_after, count_of_all, slices_of, IsConserved, IsSoundCore, first_core, core_of, IsCoreRun, history_of, own_entry_of, own_entries_from, own_entries}
+use Rattle.far_core.specs.Runs.{CoreEntry, CoreState, Turn, Own, Answered, draw_from, grant_from, turn_of, own_entry, with_entry, hand_after, after_turn, core_after, history_at, purse_of, users_of, count_of_all, slices_of, IsConserved, IsSoundHistory, IsSoundCore, first_core, core_of, IsCoreRun, history_of, own_entry_of, own_entries_from, own_entries}
 use Rattle.far_core.proofs.Longer.{kept_by_run}
+use Rattle.far_core.proofs.Summed.{within_sum}
 
 -- p of each element
 abbrev pub Each : {X : Type 0} → (X → Type 0) → List X → Type 0
@@ -48,17 +47,14 @@ each_stands all (x ∷ xs) within = (
 )
 
 -- the greatest number that a history names for a slice
-abbrev pub named_in : Shape → List Entry → ℕ → ℕ
-named_in shape h id = named_for (past_of (terms_of shape) first_past h).named id
-
-abbrev pub history_at : CoreState → ℕ → List Entry
-history_at s user = get_or s.histories user []
+abbrev pub named_in : Shape → ℕ → List Entry → ℕ → ℕ
+named_in shape user h id = named_for (past_of (terms_of user shape) first_past h).named id
 
 -- there is a history for each user, and no history names a later number for a slice of the pool or the hand
 pub record AreFresh (shape : Shape) (s : CoreState) : Type 0 where
   pub users : length s.histories ≡ shape.users
-  pub pool : (user : ℕ) → Each (λ slice. named_in shape (history_at s user) slice.0 ≤ slice.1) s.pool
-  pub hand : (user : ℕ) → Each (λ slice. named_in shape (history_at s user) slice.0 ≤ slice.1) s.hand
+  pub pool : (user : ℕ) → Each (λ slice. named_in shape user (history_at s user) slice.0 ≤ slice.1) s.pool
+  pub hand : (user : ℕ) → Each (λ slice. named_in shape user (history_at s user) slice.0 ≤ slice.1) s.hand
 
 -- a grant is of the slice on top of the hand
 abbrev pub IsGiven : Shape → List (ℕ × ℕ) → Event → Type 0
@@ -78,55 +74,51 @@ grown s user event e = with_entry s.histories user (own_entry event e)
 pub grown_is : (s : CoreState) (user : ℕ) (event : Event) (e : CoreEntry) → user < length s.histories → get_or (grown s user event e) user [] ≡ history_at s user ++ own_entry event e ∷ []
 grown_is s user event e there = get_or-set_same s.histories user (history_at s user ++ own_entry event e ∷ []) [] there
 
--- the entry follows rightly
-pub grown_follows : (shape : Shape) (s : CoreState) (user : ℕ) (event : Event) (e : CoreEntry) → user < length s.histories → All (InOrder (terms_of shape) first_past) (grown s user event e) → All (IsLegalHistory (terms_of shape) first_past) (grown s user event e)
-    → MayFollow (terms_of shape) (past_of (terms_of shape) first_past (history_at s user)) (own_entry event e)
-grown_follows shape s user event e there in_order legal =
-    let t = terms_of shape in
-    let h = history_at s user in
-    let last = own_entry event e in
-    let within : user < length (grown s user event e) = omega (arith, length-set s.histories user (h ++ last ∷ [])) in
-    last_follows t first_past h last
-    (subst (InOrder t first_past) (grown_is s user event e there) (All-get_or (InOrder t first_past) (grown s user event e) user [] within in_order))
-    (subst (IsLegalHistory t first_past) (grown_is s user event e there) (All-get_or (IsLegalHistory t first_past) (grown s user event e) user [] within legal))
+-- a sound history's last entry moves slices as it can
+pub last_moved : (t : Terms) (h : List Entry) (e : Entry) → IsSoundHistory t (h ++ e ∷ []) → IsMovedEntry (past_of t first_past h).state e
+last_moved t h e sound = last_has (λ p x. IsMovedEntry p.state x) t first_past h e sound.in_order sound.moved
 
 -- it leaves unchanged what the history names for slices that aren't held and that it doesn't bring
-named_in-push : (shape : Shape) (h : List Entry) (event : Event) (e : CoreEntry) (id : ℕ) → MayFollow (terms_of shape) (past_of (terms_of shape) first_past h) (own_entry event e)
-    → count_in id (purse_after shape h) ≡ 0 → count_brought id event ≡ 0 → named_in shape (h ++ own_entry event e ∷ []) id ≡ named_in shape h id
-named_in-push shape h event e id follows unheld unbrought =
-    let t = terms_of shape in
+named_in-push : (shape : Shape) (user : ℕ) (h : List Entry) (event : Event) (e : CoreEntry) (id : ℕ) → IsMovedEntry (past_of (terms_of user shape) first_past h).state (own_entry event e)
+    → count_in id (past_of (terms_of user shape) first_past h).state.purse ≡ 0 → count_brought id event ≡ 0 → named_in shape user (h ++ own_entry event e ∷ []) id ≡ named_in shape user h id
+named_in-push shape user h event e id moved unheld unbrought =
+    let t = terms_of user shape in
     let p = past_of t first_past h in
     ap (λ (q : Past). named_for q.named id) (past_of-push t first_past h (own_entry event e))
-    ∙ named_for-after id t p (own_entry event e) (find-uncounted id p.state.purse unheld) unbrought follows.right
+    ∙ named_for-after id t p (own_entry event e) (find-uncounted id p.state.purse unheld) unbrought moved
 
 pub at_most_one : (b : Bool) (n : ℕ) → n ≡ cond b 1 0 → n ≤ 1
 at_most_one true n e = omega arith
 at_most_one false n e = omega arith
 
+-- a user holds a slice at most as often as all do
+pub held_by_one : (shape : Shape) (s : CoreState) (user id : ℕ) → user < shape.users → count_in id (purse_of shape s user) ≤ sum_by (λ u. count_in id (purse_of shape s u)) (users_of shape)
+held_by_one shape s user id there = within_sum (λ u. count_in id (purse_of shape s u)) user 0 shape.users (omega arith) (omega (arith, there))
+
 -- a slice of the pool or the hand is held by no user, and once in hand it isn't there twice
-free_of : (shape : Shape) (s : CoreState) (user : ℕ) (event : Event) (id : ℕ) → user < length s.histories → IsConserved shape s → ((other : ℕ) → count_in other s.hand ≡ count_brought other event + count_in other (hand_after s.hand event))
-    → 1 ≤ count_in id s.pool + count_in id (hand_after s.hand event) → (count_in id (purse_after shape (history_at s user)) ≡ 0) × (count_brought id event ≡ 0)
+free_of : (shape : Shape) (s : CoreState) (user : ℕ) (event : Event) (id : ℕ) → user < shape.users → IsConserved shape s → ((other : ℕ) → count_in other s.hand ≡ count_brought other event + count_in other (hand_after s.hand event))
+    → 1 ≤ count_in id s.pool + count_in id (hand_after s.hand event) → (count_in id (purse_of shape s user) ≡ 0) × (count_brought id event ≡ 0)
 free_of shape s user event id there conserved brought stands =
     let once : count_of_all shape s id ≤ 1 = at_most_one (nat_lt id (slices_of shape)) (count_of_all shape s id) (conserved id) in
-    let held : count_in id (purse_after shape (history_at s user)) ≤ sum_by (λ h. count_in id (purse_after shape h)) s.histories = get_or-le-sum_by (λ h. count_in id (purse_after shape h)) s.histories user [] there in
+    let held = held_by_one shape s user id there in
     let split = brought id in
     (omega arith, omega arith)
 
 each_fresh : (shape : Shape) (s : CoreState) (user : ℕ) (event : Event) (e : CoreEntry) (xs : List (ℕ × ℕ)) → user < length s.histories
-    → MayFollow (terms_of shape) (past_of (terms_of shape) first_past (history_at s user)) (own_entry event e)
-    → Each (λ slice. (count_in slice.0 (purse_after shape (history_at s user)) ≡ 0) × (count_brought slice.0 event ≡ 0)) xs
-    → ((other : ℕ) → Each (λ slice. named_in shape (history_at s other) slice.0 ≤ slice.1) xs)
-    → (other : ℕ) → Each (λ slice. named_in shape (get_or (grown s user event e) other []) slice.0 ≤ slice.1) xs
-each_fresh shape s user event e xs there follows free old other =
+    → IsMovedEntry (past_of (terms_of user shape) first_past (history_at s user)).state (own_entry event e)
+    → Each (λ slice. (count_in slice.0 (purse_of shape s user) ≡ 0) × (count_brought slice.0 event ≡ 0)) xs
+    → ((other : ℕ) → Each (λ slice. named_in shape other (history_at s other) slice.0 ≤ slice.1) xs)
+    → (other : ℕ) → Each (λ slice. named_in shape other (get_or (grown s user event e) other []) slice.0 ≤ slice.1) xs
+each_fresh shape s user event e xs there moved free old other =
     let last = own_entry event e in
-    elim (other == user) as (λ b. (other == user) ≡ b → Each (λ slice. named_in shape (get_or (grown s user event e) other []) slice.0 ≤ slice.1) xs) [
+    elim (other == user) as (λ b. (other == user) ≡ b → Each (λ slice. named_in shape other (get_or (grown s user event e) other []) slice.0 ≤ slice.1) xs) [
       | true ↦ λ is.
           let same : other ≡ user = eqb-true other user is in
-          subst (λ u. Each (λ slice. named_in shape (get_or (grown s user event e) u []) slice.0 ≤ slice.1) xs) (sym same)
-          (subst (λ (h : List Entry). Each (λ slice. named_in shape h slice.0 ≤ slice.1) xs) (sym (grown_is s user event e there))
-          (each_map _ _ _ (λ slice named f. subst (λ n. n ≤ slice.1) (sym (named_in-push shape (history_at s user) event e slice.0 follows f.0 f.1)) named) xs (old user) free))
+          subst (λ u. Each (λ slice. named_in shape u (get_or (grown s user event e) u []) slice.0 ≤ slice.1) xs) (sym same)
+          (subst (λ (h : List Entry). Each (λ slice. named_in shape user h slice.0 ≤ slice.1) xs) (sym (grown_is s user event e there))
+          (each_map _ _ _ (λ slice named f. subst (λ n. n ≤ slice.1) (sym (named_in-push shape user (history_at s user) event e slice.0 moved f.0 f.1)) named) xs (old user) free))
       | false ↦ λ is.
-          subst (λ (h : List Entry). Each (λ slice. named_in shape h slice.0 ≤ slice.1) xs) (sym (get_or-set_other s.histories user other (history_at s user ++ last ∷ []) [] (eqb-false other user is))) (old other)
+          subst (λ (h : List Entry). Each (λ slice. named_in shape other h slice.0 ≤ slice.1) xs) (sym (get_or-set_other s.histories user other (history_at s user ++ last ∷ []) [] (eqb-false other user is))) (old other)
     ] refl
 
 each_left : (P : ℕ × ℕ → Type 0) (hand : List (ℕ × ℕ)) (event : Event) → Each P hand → Each P (hand_after hand event)
@@ -137,15 +129,18 @@ each_left P (x ∷ hand) (Grant slice number size) ps = ps.1
 own_fresh : (shape : Shape) (s : CoreState) (user : ℕ) (event : Event) (e : CoreEntry) → IsOwnOf shape s user event → IsSoundCore shape s → IsSoundCore shape (after_turn s e (Own user event)) → AreFresh shape s → AreFresh shape (after_turn s e (Own user event))
 own_fresh shape s user event e own sound now fresh =
     let there : user < length s.histories = omega (arith, own.there, fresh.users) in
-    let follows = grown_follows shape s user event e there now.in_order now.legal in
+    let h = history_at s user in
+    let last = own_entry event e in
+    let grew : IsSoundHistory (terms_of user shape) (h ++ last ∷ []) = subst (IsSoundHistory (terms_of user shape)) (grown_is s user event e there) (now.users user) in
+    let moved = last_moved (terms_of user shape) h last grew in
     let hand = hand_after s.hand event in
-    let free : (xs : List (ℕ × ℕ)) → ((id : ℕ) → count_in id xs ≤ count_in id s.pool + count_in id hand) → Each (λ slice. (count_in slice.0 (purse_after shape (history_at s user)) ≡ 0) × (count_brought slice.0 event ≡ 0)) xs
+    let free : (xs : List (ℕ × ℕ)) → ((id : ℕ) → count_in id xs ≤ count_in id s.pool + count_in id hand) → Each (λ slice. (count_in slice.0 (purse_of shape s user) ≡ 0) × (count_brought slice.0 event ≡ 0)) xs
     = λ xs within. each_map (λ slice. 1 ≤ count_in slice.0 xs) (λ slice. Unit {0}) _
-    (λ slice stands u. free_of shape s user event slice.0 there sound.conserved own.brought (let more = within slice.0 in omega arith)) xs (each_stands xs xs (λ id. omega arith)) (each_unit xs) in
+    (λ slice stands u. free_of shape s user event slice.0 own.there sound.conserved own.brought (let more = within slice.0 in omega arith)) xs (each_stands xs xs (λ id. omega arith)) (each_unit xs) in
     record {
       users = length-set s.histories user (history_at s user ++ own_entry event e ∷ []) ∙ fresh.users;
-      pool = each_fresh shape s user event e s.pool there follows (free s.pool (λ id. omega arith)) fresh.pool;
-      hand = each_fresh shape s user event e hand there follows (free hand (λ id. omega arith)) (λ other. each_left _ s.hand event (fresh.hand other));
+      pool = each_fresh shape s user event e s.pool there moved (free s.pool (λ id. omega arith)) fresh.pool;
+      hand = each_fresh shape s user event e hand there moved (free hand (λ id. omega arith)) (λ other. each_left _ s.hand event (fresh.hand other));
     }
   where
     each_unit : (xs : List (ℕ × ℕ)) → Each (λ slice. Unit {0}) xs
@@ -206,7 +201,7 @@ drawn_of_turn shape s (Asking other request) slice number is = asked (nat_lt oth
 
 drawn_fresh : (shape : Shape) (s : CoreState) (slice number : ℕ) → s.pool ≡ (slice, number) ∷ drop 1 s.pool → AreFresh shape s → AreFresh shape (record { pool = drop 1 s.pool; hand = (slice, number) ∷ s.hand; histories = s.histories })
 drawn_fresh shape s slice number is fresh =
-    let P : ℕ → ℕ × ℕ → Type 0 = λ user slice. named_in shape (history_at s user) slice.0 ≤ slice.1 in
+    let P : ℕ → ℕ × ℕ → Type 0 = λ user slice. named_in shape user (history_at s user) slice.0 ≤ slice.1 in
     record {
       users = fresh.users;
       pool = λ user. (subst (Each (P user)) is (fresh.pool user)).1;
@@ -263,7 +258,7 @@ first_fresh shape =
     let nothing : List Entry = [] in
     record {
       users = length-replicate shape.users nothing;
-      pool = λ user. each_named_nothing (first_core shape).pool (named_in shape (history_at (first_core shape) user)) (λ id. ap (λ (h : List Entry). named_in shape h id) (all_alike shape.users user nothing));
+      pool = λ user. each_named_nothing (first_core shape).pool (named_in shape user (history_at (first_core shape) user)) (λ id. ap (λ (h : List Entry). named_in shape user h id) (all_alike shape.users user nothing));
       hand = λ user. tt;
     }
 

@@ -2,6 +2,8 @@
 pub mod Longer
 -- steps one after the other, and what a run is made of
 pub mod Steps
+-- sums over users, of which one changes
+pub mod Summed
 -- no history names a later number for a slice of the pool or the hand
 pub mod Fresh
 -- what each event keeps: histories in order, and each slice once
@@ -14,3 +16,5 @@ pub mod Made
 pub mod First
 -- a slice that goes from the hand to the tenant
 pub mod Given
+-- tenants that came back, and the stores that were handed in
+pub mod Handed

@@ -4,7 +4,7 @@ use Rattle.far_words.specs.Moves.{no_moves}
 use Rattle.far_core.specs.declared.service.Core.TheInside.{Inside}
 use Rattle.far_core.specs.Cores.{CoreView}
 
-abbrev pub core_view : Inside → CoreView
+abbrev pub core_view : {K : Type 0} → Inside K → CoreView K
 core_view c = record {
   shape = c.shape;
   pool = reverse c.slices.pool.items;
@@ -13,7 +13,7 @@ core_view c = record {
   moves = if c.is_own then c.tenant.moves else c.no_moves;
 }
 
-pub record IsWellCore (c : Inside) : Type 0 where
+pub record IsWellCore {K : Type 0} (c : Inside K) : Type 0 where
   pub one_user : c.shape.users ≡ 1
   pub still : c.no_moves ≡ no_moves 0
   -- the hand has room for what is in the pool

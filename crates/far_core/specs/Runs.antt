@@ -1,5 +1,5 @@
 -- What the events of one thread do to the free slices, to those in hand and to each user's history.
-use Rattle.std.specs.Prelude.{◌≡◌, ℕ, ◌+◌, ◌*◌, ◌==◌, nat_lt, if◌then◌else◌, List, [], ◌∷◌, ◌++◌, map, drop, replicate, All, sum_by, slice_index_or, slice_set}
+use Rattle.std.specs.Prelude.{◌≡◌, ℕ, ◌+◌, ◌*◌, ◌==◌, nat_lt, if◌then◌else◌, Bool, IsTrue, List, [], ◌∷◌, ◌++◌, map, drop, replicate, All, sum_by, slice_index_or, slice_set}
 use Rattle.std.specs.List.{range_with_len}
 use Rattle.karma_rule.specs.declared.shape.Shape.{Shape}
 use Rattle.far_words.specs.declared.request.Reply.TheVariants.{AbsentUser}
@@ -8,8 +8,9 @@ use Rattle.far_words.specs.declared.request.Outcome.TheVariants.{Reply as Replie
 use Rattle.far_words.specs.declared.moves.PlacedRow.{PlacedRow}
 use Rattle.slice_seq.specs.Purses.{Purse}
 use Rattle.far_history.specs.Entries.{Event, Ask, Grant, Entry}
-use Rattle.far_history.specs.Histories.{past_of, first_past, InOrder, count_in}
-use Rattle.far_history.specs.Legal.{IsLegalHistory}
+use Rattle.far_history.specs.Histories.{Terms, past_of, first_past, InOrder, count_in}
+use Rattle.far_history.specs.Legal.{IsLegalHistory, IsMovedHistory}
+use Rattle.far_history.specs.Standing.{FitsFrame, IsCaused, AreCounts}
 use Rattle.tenant_world.specs.Views.{terms_of}
 use Rattle.far_core.specs.declared.service.CoreEvent.{CoreEvent}
 use Rattle.far_core.specs.declared.service.CoreEvent.TheVariants.{Ask as Asking, Draw, Grant as Granting}
@@ -22,6 +23,9 @@ pub record CoreEntry : Type 0 where
   pub freed : List (ℕ × ℕ)
   -- the blocks that came into a slice
   pub placed : List PlacedRow
+  -- the count of faults of the user's store before the event and after it, and 0 where the event isn't a user's own
+  pub before : ℕ
+  pub after : ℕ
 
 -- where the slices are, and what each user's history is
 pub record CoreState : Type 0 where
@@ -67,16 +71,22 @@ grant_from shape user (slice ∷ hand) = Own user (Grant slice.0 slice.1 shape.s
 abbrev pub for_user : Shape → ℕ → Turn → Turn
 for_user shape user turn = if nat_lt user shape.users then turn else Answered (Replied (AbsentUser shape.users))
 
--- requests come at moment 0 as yet
+-- requests come at moment 0
 abbrev pub turn_of : Shape → CoreState → CoreEvent → Turn
 turn_of shape s Draw = draw_from s.pool
 turn_of shape s (Granting user) = for_user shape user (grant_from shape user s.hand)
 turn_of shape s (Asking user request) = for_user shape user (Own user (Ask 0 request))
 
--- the entry that a user's own event adds to its history. There is no store, and so no fault of one
+-- the entry that a user's own event adds to its history
 abbrev pub own_entry : Event → CoreEntry → Entry
-own_entry event e =
-    record { event = event; outcome = e.outcome; freed = e.freed; placed = e.placed; before = 0; after = 0 }
+own_entry event e = record {
+  event = event;
+  outcome = e.outcome;
+  freed = e.freed;
+  placed = e.placed;
+  before = e.before;
+  after = e.after;
+}
 
 abbrev pub with_entry : List (List Entry) → ℕ → Entry → List (List Entry)
 with_entry histories user e = slice_set histories user (slice_index_or histories user [] ++ e ∷ [])
@@ -105,13 +115,19 @@ abbrev pub core_of : Shape → CoreState → List CoreEntry → CoreState
 core_of shape s [] = s
 core_of shape s (e ∷ run) = core_of shape (core_after shape s e) run
 
-abbrev pub purse_after : Shape → List Entry → Purse
-purse_after shape h = (past_of (terms_of shape) first_past h).state.purse
+abbrev pub history_at : CoreState → ℕ → List Entry
+history_at s user = slice_index_or s.histories user []
+
+abbrev pub purse_of : Shape → CoreState → ℕ → Purse
+purse_of shape s user = (past_of (terms_of user shape) first_past (history_at s user)).state.purse
+
+abbrev pub users_of : Shape → List ℕ
+users_of shape = range_with_len 0 shape.users
 
 -- how often a slice stands in the pool, the hand and all purses
 abbrev pub count_of_all : Shape → CoreState → ℕ → ℕ
 count_of_all shape s id =
-    count_in id s.pool + count_in id s.hand + sum_by (λ h. count_in id (purse_after shape h)) s.histories
+    count_in id s.pool + count_in id s.hand + sum_by (λ user. count_in id (purse_of shape s user)) (users_of shape)
 
 -- each slice stands in one place, once, and there are no others
 abbrev pub IsConserved : Shape → CoreState → Type 0
@@ -121,12 +137,21 @@ IsConserved shape s = (id : ℕ) → count_of_all shape s id ≡ (if nat_lt id (
 -- history
 abbrev pub IsAnswered : CoreEntry → Turn → Type 0
 IsAnswered e (Own user event) = Unit {0}
-IsAnswered e (Answered outcome) = (e.outcome ≡ outcome) × (e.freed ≡ []) × (e.placed ≡ [])
+IsAnswered e (Answered outcome) =
+    (e.outcome ≡ outcome) × (e.freed ≡ []) × (e.placed ≡ []) × (e.before ≡ 0) × (e.after ≡ 0)
+
+-- what holds of a user's history whatever its store tells: each grant is in order and each entry's moves are ones that slices
+-- can make, the counts of faults never fall, a fault of the store has its cause, and each reply fits its frame
+pub record IsSoundHistory (t : Terms) (h : List Entry) : Type 0 where
+  pub in_order : InOrder t first_past h
+  pub moved : IsMovedHistory t first_past h
+  pub counted : (now : ℕ) × AreCounts 0 h now
+  pub caused : All (λ e. IsCaused e.outcome e.before e.after) h
+  pub answered : All (λ e. FitsFrame e.event e.outcome) h
 
 -- what holds before and after each event
 pub record IsSoundCore (shape : Shape) (s : CoreState) : Type 0 where
-  pub in_order : All (InOrder (terms_of shape) first_past) s.histories
-  pub legal : All (IsLegalHistory (terms_of shape) first_past) s.histories
+  pub users : (user : ℕ) → IsSoundHistory (terms_of user shape) (history_at s user)
   pub conserved : IsConserved shape s
 
 abbrev pub IsRunFrom : Shape → CoreState → List CoreEntry → Type 0
@@ -134,14 +159,14 @@ IsRunFrom shape s [] = IsSoundCore shape s
 IsRunFrom shape s (e ∷ run) =
     IsSoundCore shape s × IsAnswered e (turn_of shape s e.event) × IsRunFrom shape (core_after shape s e) run
 
--- in each state of the run every user's history is in order and legal, and no slice is lost or doubled;
--- and draws, grants of an empty hand and events of users that there aren't are answered rightly
+-- Whatever the stores tell: in each state of the run every user's history is sound, and no slice is lost or doubled;
+-- and draws, grants of an empty hand and events of users that there aren't are answered rightly.
 abbrev pub IsCoreRun : Shape → List CoreEntry → Type 0
 IsCoreRun shape run = IsRunFrom shape (first_core shape) run
 
 -- the entries of a user's own events in a run
 abbrev pub history_of : Shape → List CoreEntry → ℕ → List Entry
-history_of shape run user = slice_index_or (core_of shape (first_core shape) run).histories user []
+history_of shape run user = history_at (core_of shape (first_core shape) run) user
 
 -- an event's entry, where the event is the user's own
 abbrev pub own_entry_of : ℕ → CoreEntry → Turn → List Entry
@@ -157,7 +182,8 @@ own_entries_from shape s (e ∷ run) user =
 abbrev pub own_entries : Shape → List CoreEntry → ℕ → List Entry
 own_entries shape run user = own_entries_from shape (first_core shape) run user
 
--- they are in order and legal, as a history by itself
-pub record IsLegalFor (shape : Shape) (run : List CoreEntry) (user : ℕ) : Type 0 where
-  pub in_order : InOrder (terms_of shape) first_past (own_entries shape run user)
-  pub legal : IsLegalHistory (terms_of shape) first_past (own_entries shape run user)
+-- They are sound, as a history by itself. Where the user's store is sure, which is where it tells its content or that it is
+-- void, they are legal too: each is what plain names and contents answer, or is excused.
+pub record IsLegalFor (sure : Bool) (shape : Shape) (run : List CoreEntry) (user : ℕ) : Type 0 where
+  pub sound : IsSoundHistory (terms_of user shape) (own_entries shape run user)
+  pub legal : IsTrue sure → IsLegalHistory (terms_of user shape) first_past (own_entries shape run user)

@@ -4,7 +4,7 @@
 mod service;
 mod slices;
 
-pub use service::{Core, CoreEvent};
+pub use service::{Core, CoreEvent, Ran};
 
 #[cfg(test)]
 mod tests;

@@ -1,5 +1,6 @@
 //! The core: what comes to it, and what it does.
 ghost use Rattle.std.specs.Prelude.{◌≡◌, ℕ, ◌<◌, ◌++◌, ◌∷◌, [], List, length, IfOk};
+ghost use Rattle.shelf_link.specs.Told.{is_sure};
 ghost use Rattle.slice_seq.specs.Slice.{SliceView};
 ghost use Rattle.karma_rule.specs.Limits.{IsStore};
 ghost use Rattle.far_words.specs.Moves.{AreInOrder, no_moves};
@@ -8,6 +9,7 @@ ghost use Rattle.far_history.specs.Entries.{Ask};
 use crate::slices::Slices;
 use far_words::{Moves, Outcome, Reply, Request};
 use karma_rule::Shape;
+use shelf_link::Shelf;
 use std::alloc::{AllocError, Global};
 use std::marker::Model;
 use tenant_world::{Tenant, TenantAsk, Told};
@@ -23,47 +25,59 @@ pub enum CoreEvent {
     Grant { user: u32 },
 }
 
-/// The free slices, the slices in hand, and the tenant of the one user that there is as yet.
+/// What a run of commands answers: the number of its status, and the tenants of its core in the order of their users, if
+/// it had a core.
+#[derive(Drop)]
+pub struct Ran<K> {
+    pub status: u8,
+    pub tenants: Vec<Tenant<K>>,
+}
+
+/// The free slices, the slices in hand, and the tenant of the one user that there is, over the user's store.
 ///
 /// All room for slices is reserved when the core is made. So an event that isn't a request takes no memory, and a few
 /// steps.
 #[derive(Drop)]
-pub struct Core {
+pub struct Core<K> {
     shape: Shape,
     slices: Slices,
-    tenant: Tenant,
+    tenant: Tenant<K>,
     /// The room in which the tenants are handed back.
-    ended: Vec<Tenant>,
+    ended: Vec<Tenant<K>>,
     /// Whether the last event was the tenant's.
     is_own: bool,
     /// The moves of an event that isn't a tenant's.
     no_moves: Moves,
 }
 
-impl Model for Core {
+impl<K> Model for Core<K> {
     ghost use Rattle.far_core.specs.Cores.{CoreView};
     ghost use Rattle.far_core.specs.Inside.{IsWellCore, core_view};
 
-    ghost Value = { CoreView };
+    ghost Value = { CoreView K };
 
     ghost view = { core_view };
 
     ghost invariant = { IsWellCore };
 }
 
-impl Core {
-    ghost use Rattle.far_core.specs.Runs.{CoreEntry, IsLegalFor};
-    ghost use Rattle.far_core.specs.Cores.{Gives, GrowsBy, GrowsTenant, StandsForRun, core_entry, draw_of};
+impl<K: Shelf + Drop> Core<K> {
+    ghost use Rattle.far_core.specs.Cores.{StandsForRun};
 
-    /// A core whose slices are all in the pool, under number 0, and whose user has no name.
-    pub fn new(alloc: Global, shape: Shape) -> Result<Core, AllocError>
+    /// A core whose slices are all in the pool, under number 0, and whose user has no name. It takes the users' stores, in
+    /// the order of the users.
+    pub fn new(alloc: Global, shape: Shape, mut shelves: Vec<K>) -> Result<Core<K>, AllocError>
         requires within { IsStore shape }
         requires one_user { shape.users ≡ 1 }
+        requires shelves { length shelves.items ≡ shape.users }
         ensures shape { IfOk result (λ core. core.shape ≡ shape) }
-        ensures stands { IfOk result (λ core. StandsForRun core []) }
+        ensures stands { IfOk result (λ core. StandsForRun K.told K.faults shelves.items core []) }
     {
+        let Some(shelf) = shelves.pop() else {
+            unreachable!();
+        };
         let no_moves = Moves::new(alloc, 0)?;
-        let tenant = Tenant::new(alloc, 0, shape)?;
+        let tenant = Tenant::new(alloc, 0, shape, shelf)?;
         let ended = Vec::with_capacity(alloc, 1)?;
         let count = u64::from(shape.users) * shape.share.fair;
         let slices = Slices::new(alloc, count as u32, shape.slice)?;
@@ -76,15 +90,27 @@ impl Core {
             no_moves,
         })
     }
+}
 
-    /// One event. The run that the core stands for grows by its entry, whatever the event is answered.
+impl<K: Shelf> Core<K> {
+    ghost use Rattle.far_core.specs.Runs.{CoreEntry, IsLegalFor};
+    ghost use Rattle.far_core.specs.Cores.{Gives, GrowsBy, GrowsTenant, HaveHistories, KeepsStore, StandsForRun, core_entry, draw_of};
+
+    /// One event. The run that the core stands for grows by its entry, whatever the event is answered and whatever the
+    /// stores tell.
     pub fn step(&mut self, event: CoreEvent) -> Outcome
         ensures shape { self.new.shape ≡ self.old.shape }
-        ensures stands { GrowsBy self.old (core_entry event result self.new ∷ []) self.new }
+        ensures stands { GrowsBy K.told K.faults self.old
+            (core_entry K.faults event result self.old self.new ∷ []) self.new }
 
-        // Each user's own events, taken alone, are a legal history in order.
-        ensures each_user { (run : List CoreEntry) → StandsForRun self.old run
-            → (user : ℕ) → user < self.old.shape.users → IsLegalFor self.old.shape (run ++ core_entry event result self.new ∷ []) user }
+        // Each user's own events, taken alone, are a sound history in order, and a legal one where the user's store tells
+        // its content or that it is void.
+        ensures each_user { (shelves : List _) (run : List CoreEntry)
+            → StandsForRun K.told K.faults shelves self.old run → (user : ℕ) → user < self.old.shape.users
+            → IsLegalFor (is_sure (K.told self.new.tenant.home.shelf)) self.old.shape
+            (run ++ core_entry K.faults event result self.old self.new ∷ []) user }
+
+        ensures store { KeepsStore K.told K.faults self.old self.new }
     {
         self.is_own = false;
         self.answer(event)
@@ -110,9 +136,14 @@ impl Core {
     }
 
     /// Ends the core, and gives its tenants in the order of their users. The slices of pool and hand are ended, each by
-    /// [`Slice::free`](slice_seq::Slice::free); those that a tenant holds stay with it. It takes no memory.
-    pub fn finish(self) -> Vec<Tenant>
-        ensures { result.items ≡ self.tenant ∷ [] }
+    /// [`Slice::free`](slice_seq::Slice::free); those that a tenant holds stay with it, and so does its store. It takes no
+    /// memory.
+    pub fn finish(self) -> Vec<Tenant<K>>
+        ensures tenants { result.items ≡ self.tenant ∷ [] }
+
+        // Whatever run the core stands for, the tenants have the histories of its users.
+        ensures have { (shelves : List _) (run : List CoreEntry) → StandsForRun K.told K.faults shelves self run
+            → HaveHistories K.told K.faults self.shape run 0 shelves result.items }
     {
         let Core {
             shape: _,
@@ -130,7 +161,9 @@ impl Core {
     fn answer(&mut self, event: CoreEvent) -> Outcome
         requires { self.old.moves ≡ no_moves 0 }
         ensures shape { self.new.shape ≡ self.old.shape }
-        ensures stands { GrowsBy self.old (core_entry event result self.new ∷ []) self.new }
+        ensures stands { GrowsBy K.told K.faults self.old
+            (core_entry K.faults event result self.old self.new ∷ []) self.new }
+        ensures store { KeepsStore K.told K.faults self.old self.new }
     {
         match event {
             CoreEvent::Ask { user, request } => {
@@ -160,7 +193,7 @@ impl Core {
 
     /// A request of the user.
     fn ask(&mut self, request: Request) -> Outcome
-        ensures serves { GrowsTenant self.old (Ask 0 request) result self.new }
+        ensures serves { GrowsTenant K.told K.faults self.old (Ask 0 request) result self.new }
         ensures rest { self.new ≡ record self.old { tenant = self.new.tenant; moves = self.new.moves } }
     {
         self.is_own = true;
@@ -178,7 +211,8 @@ impl Core {
         ensures empty { self.old.hand ≡ [] → result ≡ Outcome.HandEmpty }
         ensures kept { self.old.hand ≡ [] → self.new ≡ self.old }
         ensures given { (slice : SliceView) (hand : List SliceView) → self.old.hand ≡ slice ∷ hand
-            → Gives self.old slice hand result self.new }
+            → Gives K.told K.faults self.old slice hand result self.new }
+        ensures store { KeepsStore K.told K.faults self.old self.new }
     {
         let Some(slice) = self.slices.hand.pop() else {
             return Outcome::HandEmpty;
@@ -193,7 +227,8 @@ impl Core {
 
     /// The pool's lowest slice comes into the hand.
     fn draw(&mut self) -> Outcome
-        ensures { (self.new, result) ≡ draw_of self.old self.old.pool }
+        ensures drawn { (self.new, result) ≡ draw_of self.old self.old.pool }
+        ensures tenant { self.new.tenant ≡ self.old.tenant }
     {
         let Some(slice) = self.slices.pool.pop() else {
             return Outcome::PoolEmpty;

@@ -65,6 +65,8 @@ far_memory replay USERS FAIR FLOOR CREDITS SLICE
         append U PATH E           bytes at the end of a file; E is an escaped text
         read U PATH FROM LEN      bytes of a file
         length U PATH             the length of a file
+        park U PATH               the blocks of a file move into the store
+        load U PATH               the parked blocks of a file come back into slices
     Example:
         $ printf 'draw\\ngrant 0\\nmake 0 f file 9\\nappend 0 f hello\\n' | far_memory replay 1 4 4 0 64
         slice 0 0

@@ -5,11 +5,14 @@ mod help;
 #[cfg(test)]
 mod tests;
 
+ghost use Rattle.std.specs.Prelude.{◌≡◌, length, IfOk};
+
 use far_io::{ReadSource, Sink, WriteFault, WriteSink, put_all};
-use far_top::run_told;
+use far_top::{RanTold, run_told, shelf_count};
 use help::{Question, parts, question_of};
 use run_end::{Status, Why};
-use std::alloc::AllocError;
+use shelf_link::ShelfMem;
+use std::alloc::{AllocError, Global};
 use std::env::{self, Env};
 use std::io::{Error, ErrorKind};
 use std::process::ExitCode;
@@ -65,11 +68,26 @@ fn tell(rt: &HostRuntime, question: Question) -> Status {
     }
 }
 
-/// Does what the words ask for, and explains a status that isn't 0.
+/// So many stores in memory.
+fn memory_shelves(alloc: Global, count: usize) -> Result<Vec<ShelfMem>, AllocError>
+    ensures { IfOk result (λ shelves. length shelves.items ≡ count) }
+{
+    let mut shelves = Vec::new(alloc);
+    for _ in 0..count {
+        shelves.push(ShelfMem::new(alloc, Vec::new(alloc)))?;
+    }
+    Ok(shelves)
+}
+
+/// Does what the words ask for, over stores in memory, and explains a status that isn't 0.
 fn run(rt: &HostRuntime, words: &[String]) -> Status {
     let mut source = ReadSource::new(rt.stdin());
     let mut sink = WriteSink::new(rt.stdout());
-    let why = run_told(rt.alloc(), words, &mut source, &mut sink);
+    let Ok(shelves) = memory_shelves(rt.alloc(), shelf_count(words)) else {
+        explain(rt, Why::NoMemory, None);
+        return Status::NoMemory;
+    };
+    let RanTold { why, tenants: _ } = run_told(rt.alloc(), words, shelves, &mut source, &mut sink);
     match why {
         Why::Done => {}
         Why::ReadFault => explain(rt, why, source.last_error()),

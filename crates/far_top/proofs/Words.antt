@@ -7,7 +7,7 @@ use Rattle.karma_rule.specs.declared.shape.Shape.{Shape}
 use Rattle.karma_rule.specs.Limits.{shape_of, IsPlan, IsStore, IsWithin, IsFirstBroken, Limit, Users, Fair, Floor, Credits, Slice, Products, place_of}
 use Rattle.far_top.specs.declared.command.Command.{Command}
 use Rattle.far_top.specs.declared.command.Command.TheVariants.{Plan, Audit, Replay}
-use Rattle.far_top.specs.Commands.{shape_words, IsShapeWords, IsStoreWords, IsWords, IsWithinLimits}
+use Rattle.far_top.specs.Commands.{shape_words, IsShapeWords, IsStoreWords, IsWords, IsNoWords, IsWithinLimits, IsShelfCount, shelves_of}
 
 pub number_is : (word : List ℕ) (value n : ℕ) → value ≡ value_of word → word ≡ decimal n → n < 2 ^ 64 → value ≡ n
 number_is word value n is_value spelled fits = is_value ∙ ap value_of spelled ∙ value_of-decimal n fits
@@ -130,3 +130,10 @@ store_made words others last shape plan slice split of_plan one spelled is withi
       within = subst IsStore is within;
       one_user = refl;
     })
+
+-- how many stores words want that ask for this, and that ask for nothing
+pub count_of : (words : List (List ℕ)) (found : Command) (count : ℕ) → IsWords words found → count ≡ shelves_of found → IsShelfCount words count
+count_of words found count is same = record { good = λ command also. same ∙ ap shelves_of (words_unique words found command is also); bad = λ none. absurd (none found is) }
+
+pub count_none : (words : List (List ℕ)) → IsNoWords words → IsShelfCount words 0
+count_none words none = record { good = λ command is. absurd (none command is); bad = λ _. refl }

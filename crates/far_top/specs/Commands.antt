@@ -15,7 +15,7 @@ pub record IsShapeWords (words : List (List ℕ)) (shape : Shape) : Type 0 where
   pub within : IsPlan shape
   pub unsliced : shape.slice ≡ 0
 
--- These words are the numbers of a store, the size of a slice last, each within its limits. One user is served as yet.
+-- These words are the numbers of a store, the size of a slice last, each within its limits. There is one user.
 pub record IsStoreWords (words : List (List ℕ)) (shape : Shape) : Type 0 where
   pub spelled : words ≡ shape_words shape ++ decimal shape.slice ∷ []
   pub within : IsStore shape
@@ -36,3 +36,14 @@ abbrev pub IsWithinLimits : Command → Type 0
 IsWithinLimits (Plan shape) = IsPlan shape
 IsWithinLimits (Audit shape) = IsPlan shape
 IsWithinLimits (Replay shape) = IsStore shape × (shape.users ≡ 1)
+
+-- how many stores it wants: a replay one for each user
+abbrev pub shelves_of : Command → ℕ
+shelves_of (Plan shape) = 0
+shelves_of (Audit shape) = 0
+shelves_of (Replay shape) = shape.users
+
+-- what these words ask for wants so many stores, and words that ask for nothing want none
+pub record IsShelfCount (words : List (List ℕ)) (count : ℕ) : Type 0 where
+  pub good : (command : Command) → IsWords words command → count ≡ shelves_of command
+  pub bad : IsNoWords words → count ≡ 0

@@ -3,7 +3,7 @@
 ghost use Rattle.std.specs.Prelude.{◌≡◌, ◌≢◌, ℕ, ◌^◌, ◌<◌, List, IfOk, IfErr, map, string_bytes, decimal};
 ghost use Rattle.far_io.specs.Decimals.{value_of};
 ghost use Rattle.karma_rule.specs.declared.shape.Shape.{Shape};
-ghost use Rattle.far_top.specs.Commands.{IsShapeWords, IsStoreWords, IsWords, IsNoWords};
+ghost use Rattle.far_top.specs.Commands.{IsShapeWords, IsStoreWords, IsWords, IsNoWords, IsShelfCount, shelves_of};
 
 use far_io::parse_decimal;
 use karma_rule::{BadShape, Shape};
@@ -18,6 +18,18 @@ pub enum Command {
     Audit(Shape),
     /// An outcome, with its moves, for each line of a script.
     Replay(Shape),
+}
+
+impl Command {
+    /// How many stores it wants: a replay one for each user, and the others none.
+    pub fn shelves(self) -> usize
+        ensures { result ≡ shelves_of self }
+    {
+        match self {
+            Command::Plan(_) | Command::Audit(_) => 0,
+            Command::Replay(shape) => shape.users as usize,
+        }
+    }
 }
 
 /// How many words `plan` and `audit` have, the command's own with them.
@@ -77,7 +89,7 @@ fn read_shape(words: &[String]) -> Result<Shape, WordsFault>
     }
 }
 
-/// The numbers of a store: those of a plan, and the size of a slice. One user is served as yet.
+/// The numbers of a store: those of a plan, and the size of a slice. It has one user.
 fn read_store(words: &[String]) -> Result<Shape, WordsFault>
     ensures shape { IfOk result (λ shape. IsStoreWords (map string_bytes words.now) shape) }
     ensures none { IfErr result (λ fault. (shape : Shape) → IsStoreWords (map string_bytes words.now) shape → ⊥) }
@@ -115,5 +127,15 @@ pub fn read_words(words: &[String]) -> Result<Command, WordsFault>
         b"audit" => Ok(Command::Audit(read_shape(others)?)),
         b"replay" => Ok(Command::Replay(read_store(others)?)),
         _ => Err(WordsFault::UnknownCommand),
+    }
+}
+
+/// How many stores a run of these words wants: as many as a good `replay` has users, and else none. It takes no memory.
+pub fn shelf_count(words: &[String]) -> usize
+    ensures { IsShelfCount (map string_bytes words.now) result }
+{
+    match read_words(words) {
+        Ok(command) => command.shelves(),
+        Err(_) => 0,
     }
 }

@@ -3,9 +3,11 @@
 mod faults;
 mod replays;
 mod rosters;
+mod stores;
 
-use crate::run_words;
+use crate::{run_words, shelf_count};
 use far_io::{MemSink, MemSource, Raw};
+use shelf_link::{Shelf, ShelfMem};
 use std::test::Fail;
 
 const FIRST: &[u8] = b"quantum 0\ndemand 3 2 1\nslices 3 2 1\ncredits 4 5 6\n";
@@ -14,28 +16,80 @@ const SECOND: &[u8] = b"quantum 1\ndemand 3 0 0\nslices 3 0 0\ncredits 3 7 8\n";
 
 const THIRD: &[u8] = b"quantum 2\ndemand 0 4 4\nslices 0 3 3\ncredits 5 6 7\n";
 
-// One run over memory. The words are separated by spaces, a call of the source gives at most `piece` bytes, and the
-// calls with the numbers `read_fault` and `write_fault` fail. It answers the status, how many calls failed, and what
-// was written.
+// What a run gave: its status, how many calls of source and sink failed, how many tenants came back, and what was written.
+#[derive(Drop)]
+struct Given {
+    status: u8,
+    faults: u64,
+    tenants: usize,
+    written: Vec<u8>,
+}
+
+// The words of a text, which are separated by spaces.
+fn words_of(rt: &HostRuntime, text: &str) -> Result<Vec<String>, Fail> {
+    let mut list = Vec::new(rt.alloc());
+    for word in text.split(' ') {
+        list.push(String::from_str(rt.alloc(), word)?)?;
+    }
+    Ok(list)
+}
+
+// So many stores in memory, whose calls of the listed numbers fail.
+fn memory(rt: &HostRuntime, count: usize, fails: &[u64]) -> Result<Vec<ShelfMem>, Fail> {
+    let mut shelves = Vec::new(rt.alloc());
+    for _ in 0..count {
+        let fails = Vec::from_slice(rt.alloc(), fails)?;
+        shelves.push(ShelfMem::new(rt.alloc(), fails))?;
+    }
+    Ok(shelves)
+}
+
+// One run over these stores, of which there have to be as many as the words want. A call of the source gives at most
+// `piece` bytes, and the calls with the numbers `read_fault` and `write_fault` fail.
+fn run_over<K: Shelf + Drop>(
+    rt: &HostRuntime,
+    text: &str,
+    shelves: Vec<K>,
+    input: &[u8],
+    piece: usize,
+    read_fault: u64,
+    write_fault: u64,
+) -> Result<Given, Fail> {
+    let alloc = rt.alloc();
+    let list = words_of(rt, text)?;
+    let words = list.as_slice();
+    if shelves.len() != shelf_count(words) {
+        return Err(Fail::from("as many stores as the words want"));
+    }
+    let bytes = Raw::from(Vec::from_slice(alloc, input)?);
+    let mut source = MemSource::new(bytes, piece.max(1), Vec::from_slice(alloc, &[read_fault])?);
+    let mut sink = MemSink::new(alloc, Vec::from_slice(alloc, &[write_fault])?);
+    let ran = run_words(alloc, words, shelves, &mut source, &mut sink);
+    Ok(Given {
+        status: ran.status,
+        faults: source.faults().saturating_add(sink.faults()),
+        tenants: ran.tenants.len(),
+        written: Vec::from_slice(alloc, sink.bytes())?,
+    })
+}
+
+// The same over stores in memory that don't fail. It answers the status, how many calls failed, and what was written. As
+// many tenants come back as stores were handed in.
 fn run(
     rt: &HostRuntime,
-    words: &str,
+    text: &str,
     input: &[u8],
     piece: usize,
     read_fault: u64,
     write_fault: u64,
 ) -> Result<(u8, u64, Vec<u8>), Fail> {
-    let alloc = rt.alloc();
-    let mut list = Vec::new(alloc);
-    for word in words.split(' ') {
-        list.push(String::from_str(alloc, word)?)?;
+    let count = shelf_count(words_of(rt, text)?.as_slice());
+    let shelves = memory(rt, count, &[])?;
+    let given = run_over(rt, text, shelves, input, piece, read_fault, write_fault)?;
+    if given.tenants != count {
+        return Err(Fail::from("as many tenants as stores"));
     }
-    let bytes = Raw::from(Vec::from_slice(alloc, input)?);
-    let mut source = MemSource::new(bytes, piece.max(1), Vec::from_slice(alloc, &[read_fault])?);
-    let mut sink = MemSink::new(alloc, Vec::from_slice(alloc, &[write_fault])?);
-    let status = run_words(alloc, list.as_slice(), &mut source, &mut sink);
-    let faults = source.faults().saturating_add(sink.faults());
-    Ok((status, faults, Vec::from_slice(alloc, sink.bytes())?))
+    Ok((given.status, given.faults, given.written))
 }
 
 // The blocks of the first so many of the three lines `3 2 1`, `3 0 0` and `0 4 4`, and then `last`.

@@ -1,5 +1,6 @@
 //! What one event moved.
-ghost use Rattle.std.specs.Prelude.{◌≡◌, ℕ, ◌+◌, ◌<◌, ◌++◌, ◌∷◌, [], length, IfOk, OnOk, OnErr};
+ghost use Rattle.std.specs.Prelude.{◌≡◌, ℕ, ◌+◌, ◌<◌, ◌≤◌, ◌++◌, ◌∷◌, [], length, IfOk, OnOk, OnErr};
+ghost use Rattle.std.specs.List.Sorted.{IsPermutation, IsNonDecreasingBy};
 
 use crate::path::Path;
 use std::alloc::{AllocError, AllocFailed, Global};
@@ -85,6 +86,21 @@ impl Moves {
         ensures { self.new ≡ record self.old { placed = rows.items } }
     {
         self.placed = rows;
+    }
+
+    /// Notes these slices as those that lost their block in place of those that were noted, in the order of their ids. It takes no
+    /// memory.
+    pub fn set_freed(&mut self, slices: &[(u32, u64)])
+        requires { length slices.now ≤ self.old.room }
+        ensures freed { IsPermutation slices.now self.new.freed }
+        ensures order { IsNonDecreasingBy (λ slice. slice.0) self.new.freed }
+        ensures rest { self.new ≡ record self.old { freed = self.new.freed } }
+    {
+        self.freed.clear();
+        for slice in slices {
+            self.freed.push_reserved(*slice);
+        }
+        self.freed.sort_unstable_by_key(|slice| slice.0);
     }
 
     /// Forgets all moves. The room stays.

@@ -1,6 +1,7 @@
 //! What a user asks for, and what it is told.
 use crate::blob::Blob;
 use crate::path::Path;
+use crate::stamp::{Found, Stamp};
 
 /// The most bytes that one request appends or reads.
 pub const MOST_IN_REQUEST: u64 = 65_536;
@@ -26,6 +27,10 @@ pub enum Request {
     Read { path: Path, from: u64, len: u32 },
     /// The length of a file.
     Length { path: Path },
+    /// Every block of a name goes to the store, and frees its slice.
+    Park { path: Path },
+    /// Every block of a name comes into a slice.
+    Load { path: Path },
 }
 
 /// The reply to a request.
@@ -46,6 +51,10 @@ pub enum Reply {
     Full { limit: u64 },
     /// The request needs `need` slices, and the user has `granted`, of which `used` are used.
     Exhausted { need: u64, used: u64, granted: u64 },
+    /// The store failed.
+    StoreFault,
+    /// What the store has in place of a parked block isn't the image that was put there, whose stamp was kept.
+    Damaged { kept: Stamp, found: Found },
     /// There are `users` users, and this isn't one of them.
     AbsentUser { users: u32 },
     NoMemory,

@@ -1,8 +1,8 @@
-//! Sets of numbers below a bound, in room that is reserved when they are made. Each call takes a few
+//! Sets of numbers below a bound, in room that is reserved when they are made or grow. Each other call takes a few
 //! steps, whatever the bound: six levels of bits, each saying which words of the level below aren't zero.
 #![tactic(auto)]
 
-ghost use Rattle.std.specs.Prelude.{◌≡◌, ◌+◌, ◌<◌, length, not, IfOk};
+ghost use Rattle.std.specs.Prelude.{◌≡◌, ◌+◌, ◌<◌, ◌≤◌, length, not, IfOk, OnErr, OnOk};
 ghost use Rattle.id_set.specs.IdSet as set;
 
 use crate::bits::{Bits, Flags, Level};
@@ -52,6 +52,32 @@ impl IdSet {
         })
     }
 
+    fn filled(alloc: Global, bound: u32, member: bool) -> Result<IdSet, AllocError>
+        ensures { IfOk result (λ made. made ≡ set.filled bound member) }
+    {
+        if member {
+            IdSet::full(alloc, bound)
+        } else {
+            IdSet::new(alloc, bound)
+        }
+    }
+
+    /// Raises the bound. The numbers below the old one stay members or not, and those from it on are members or not,
+    /// as `member` says. It takes as many steps as the old bound has numbers, so a set whose bound is doubled each time
+    /// takes a few for each number. For its time it holds both sets. Where no memory is found, nothing has changed.
+    pub fn grow(&mut self, alloc: Global, bound: u32, member: bool) -> Result<(), AllocError>
+        requires { length self.old ≤ bound }
+        ensures grown { OnOk result (self.new ≡ set.grown self.old bound member) }
+        ensures same { OnErr result (self.new ≡ self.old) }
+    {
+        let mut grown = IdSet::filled(alloc, bound, member)?;
+        for id in 0..self.bound() {
+            grown.set(id, self.contains(id));
+        }
+        *self = grown;
+        Ok(())
+    }
+
     /// The number below which every member is.
     pub fn bound(&self) -> u32
         ensures { result ≡ length self.now }
@@ -97,6 +123,18 @@ impl IdSet {
         self.members.remove(id);
         self.count -= 1;
         true
+    }
+
+    /// Makes a number a member or not.
+    pub fn set(&mut self, id: u32, member: bool)
+        requires { id < length self.old }
+        ensures { self.new ≡ set.with self.old id member }
+    {
+        if member {
+            self.insert(id);
+        } else {
+            self.remove(id);
+        }
     }
 
     /// The lowest member.
@@ -147,6 +185,26 @@ mod tests {
             );
             assert!(rt; !ids.contains(bound));
         }
+        Ok(())
+    }
+
+    #[test]
+    fn grows_with_its_members(rt: HostRuntime) -> Result<(), Fail> {
+        let mut ids = IdSet::new(rt.alloc(), 0)?;
+        assert!(rt; ids.grow(rt.alloc(), 65, false).is_ok());
+        assert_eq!(rt; (ids.bound(), ids.count(), ids.first()), (65, 0, None));
+        assert!(rt; ids.insert(3) && ids.insert(64));
+        assert!(rt; ids.grow(rt.alloc(), 130, true).is_ok());
+        assert_eq!(rt; (ids.bound(), ids.count(), ids.first()), (130, 67, Some(3)));
+        assert!(rt; ids.contains(64) && ids.contains(65) && ids.contains(129));
+        assert!(rt; !ids.contains(63) && !ids.contains(130));
+        assert!(rt; ids.grow(rt.alloc(), 130, false).is_ok(), "the same bound");
+        assert_eq!(rt; (ids.bound(), ids.count()), (130, 67));
+        assert!(rt; ids.grow(rt.alloc(), 4_194_304, false).is_ok());
+        assert_eq!(rt;
+            (ids.count(), ids.contains(129), ids.contains(130)),
+            (67, true, false)
+        );
         Ok(())
     }
 }

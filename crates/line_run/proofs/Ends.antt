@@ -28,11 +28,11 @@ own_end why other (inl own) = own
 own_end whys.ReadFault other (inr is) = absurd (other refl)
 own_end why other (inr is) = absurd (cc)
 
-module _ {R O : Type 0} (rules : LineRules R) (read : Reading) (took : O → O → List ℕ → Type 0) (faults : O → Faults) (before now later : O) (first : R) (end : End) (text : List ℕ)
-    (comes : ComesTo rules read took before now first end text) (source : Follows read.faults read.faults_now) where
+module _ {R O : Type 0} (rules : LineRules R) (read : Reading) (took : O → O → List ℕ → Type 0) (faults : O → Faults) (before now later : O) (first final : R) (end : End) (text : List ℕ)
+    (comes : ComesTo rules read took before now first final end text) (source : Follows read.faults read.faults_now) where
   -- the last text of an end that isn't a fault was written, or the sink failed within it
   pub runs_to : (answer : End) → IsOwnEnd end.status → PutsLast took faults now later text end answer → Follows (faults before) (faults now) → Follows (faults now) (faults later)
-      → RunsTo rules read took faults before later first answer
+      → RunsTo rules read took faults before later first final answer
   runs_to answer own (All adds) sink last = record {
     known = λ is. absurd (subst IsOwnEnd is own);
     whole = λ whole. record {
@@ -100,11 +100,11 @@ module _ {R O : Type 0} (rules : LineRules R) (read : Reading) (took : O → O �
 
   -- the source failed
   pub runs_to_fault : end.status ≡ ReadFault → (rules.quiet → now ≡ before) → Rose read.faults read.faults_now → Follows (faults before) (faults now)
-      → RunsTo rules read took faults before now first end
+      → RunsTo rules read took faults before now first final end
   runs_to_fault is_fault unsent rose sink = record {
     known = λ is. absurd (cc);
     whole = λ whole. absurd (subst IsWhole is_fault whole);
-    read_fault = λ is. record { chunks = comes.chunks; last = comes.last; path = comes.path; firsts = (comes.ended is_fault).0; ended = (comes.ended is_fault).1; adds = comes.adds; unsent = unsent; rose = rose };
+    read_fault = λ is. record { chunks = comes.chunks; last = comes.last; path = comes.path; firsts = (comes.ended is_fault).0; ended = (comes.ended is_fault).1; stays = (comes.ended is_fault).2; adds = comes.adds; unsent = unsent; rose = rose };
     write_fault = λ is. absurd (cc);
     no_memory = λ is. absurd (cc);
     source = source;
@@ -112,9 +112,9 @@ module _ {R O : Type 0} (rules : LineRules R) (read : Reading) (took : O → O �
   }
 
 -- the sink failed before the last text
-pub runs_to_break : {R O : Type 0} (rules : LineRules R) (read : Reading) (took : O → O → List ℕ → Type 0) (faults : O → Faults) (before now : O) (first : R) (end : End) → end.status ≡ WriteFault
-    → BreaksOff rules read took faults before now first → Follows read.faults read.faults_now → Follows (faults before) (faults now) → RunsTo rules read took faults before now first end
-runs_to_break rules read took faults before now first end is_fault breaks source sink = record {
+pub runs_to_break : {R O : Type 0} (rules : LineRules R) (read : Reading) (took : O → O → List ℕ → Type 0) (faults : O → Faults) (before now : O) (first final : R) (end : End) → end.status ≡ WriteFault
+    → BreaksOff rules read took faults before now first final → Follows read.faults read.faults_now → Follows (faults before) (faults now) → RunsTo rules read took faults before now first final end
+runs_to_break rules read took faults before now first final end is_fault breaks source sink = record {
   known = λ is. absurd (cc);
   whole = λ whole. absurd (subst IsWhole is_fault whole);
   read_fault = λ is. absurd (cc);

@@ -114,9 +114,9 @@ module _ {R O : Type 0} (rules : LineRules R) (took : O → O → List ℕ → T
       )
 
   -- the run ends at this line
-  pub comes_to_stop : (read : Reading) (line : List ℕ) (end : End) (text : List ℕ) → read.input ≡ input → IsOwnEnd end.status → rules.stops state line end text
-      → ((others : List ℕ) → left ≡ Some others → (rest : List (List ℕ)) × (lines_of others ≡ line ∷ rest)) → ComesTo rules read took before now first end text
-  comes_to_stop read line end text same own stops next = record {
+  pub comes_to_stop : (read : Reading) (line : List ℕ) (end : End) (text : List ℕ) (final : R) → read.input ≡ input → IsOwnEnd end.status → rules.stops state line final end text
+      → ((others : List ℕ) → left ≡ Some others → (rest : List (List ℕ)) × (lines_of others ≡ line ∷ rest)) → ComesTo rules read took before now first final end text
+  comes_to_stop read line end text final same own stops next = record {
     chunks = so_far.chunks;
     last = state;
     path = so_far.path;
@@ -127,27 +127,27 @@ module _ {R O : Type 0} (rules : LineRules R) (took : O → O → List ℕ → T
   }
 
   -- the same where nothing went to the sink since
-  pub comes_to_stop_unsent : (read : Reading) (line : List ℕ) (end : End) (text : List ℕ) (later : O) → later ≡ now → read.input ≡ input → IsOwnEnd end.status → rules.stops state line end text
-      → ((others : List ℕ) → left ≡ Some others → (rest : List (List ℕ)) × (lines_of others ≡ line ∷ rest)) → ComesTo rules read took before later first end text
-  comes_to_stop_unsent read line end text later unsent same own stops next =
-      subst (λ (sink : O). ComesTo rules read took before sink first end text) (sym unsent) (comes_to_stop read line end text same own stops next)
+  pub comes_to_stop_unsent : (read : Reading) (line : List ℕ) (end : End) (text : List ℕ) (final : R) (later : O) → later ≡ now → read.input ≡ input → IsOwnEnd end.status → rules.stops state line final end text
+      → ((others : List ℕ) → left ≡ Some others → (rest : List (List ℕ)) × (lines_of others ≡ line ∷ rest)) → ComesTo rules read took before later first final end text
+  comes_to_stop_unsent read line end text final later unsent same own stops next =
+      subst (λ (sink : O). ComesTo rules read took before sink first final end text) (sym unsent) (comes_to_stop read line end text final same own stops next)
 
   -- it ends at the end of the input
   pub comes_to_over : (read : Reading) (end : End) (text : List ℕ) → read.input ≡ input → IsOwnEnd end.status → rules.over state end text → IsAtEnd left → IsAtEnd read.left
-      → ComesTo rules read took before now first end text
+      → ComesTo rules read took before now first state end text
   comes_to_over read end text same own over empty at_end = record {
     chunks = so_far.chunks;
     last = state;
     path = so_far.path;
     adds = so_far.adds;
     how = inl own;
-    ends = λ _. inr (over, subst (λ (i : Option (List ℕ)). AllLines i so_far.chunks) (sym same) (all_lines empty), at_end);
+    ends = λ _. inr (over, subst (λ (i : Option (List ℕ)). AllLines i so_far.chunks) (sym same) (all_lines empty), at_end, refl);
     ended = λ fault. absurd (subst IsOwnEnd fault own);
   }
 
   -- it ends where the source failed
   pub comes_to_fault : (read : Reading) (end : End) (text : List ℕ) (old new : LineView) → read.input ≡ input → end.status ≡ ReadFault → old.limit ≡ MOST_LINE → ended ≡ false
-      → ReadsFault left (in_front new.ahead read.left) old new → ComesTo rules read took before now first end text
+      → ReadsFault left (in_front new.ahead read.left) old new → ComesTo rules read took before now first state end text
   comes_to_fault read end text old new same is_fault limit going fault = record {
     chunks = so_far.chunks;
     last = state;
@@ -155,17 +155,17 @@ module _ {R O : Type 0} (rules : LineRules R) (took : O → O → List ℕ → T
     adds = so_far.adds;
     how = inr is_fault;
     ends = λ own. absurd (subst IsOwnEnd is_fault own);
-    ended = λ _. subst (λ (i : Option (List ℕ)). FirstLines i so_far.chunks × EndedLines i read.left so_far.chunks) (sym same) (first_lines, ended_lines read.left old new limit going fault);
+    ended = λ _. subst (λ (i : Option (List ℕ)). FirstLines i so_far.chunks × EndedLines i read.left so_far.chunks × (state ≡ state)) (sym same) (first_lines, ended_lines read.left old new limit going fault, refl);
   }
 
   -- the sink failed before a further line was read
-  pub breaks_before : (read : Reading) (faults : O → Faults) (later : O) → read.input ≡ input → Adds took now later [] → Rose (faults before) (faults later) → BreaksOff rules read took faults before later first
+  pub breaks_before : (read : Reading) (faults : O → Faults) (later : O) → read.input ≡ input → Adds took now later [] → Rose (faults before) (faults later) → BreaksOff rules read took faults before later first state
   breaks_before read faults later same fault rose = record {
     chunks = so_far.chunks;
     last = state;
     text = [];
     path = so_far.path;
-    ends = inl (refl, subst (λ (i : Option (List ℕ)). FirstLines i so_far.chunks) (sym same) first_lines);
+    ends = inl (refl, subst (λ (i : Option (List ℕ)). FirstLines i so_far.chunks) (sym same) first_lines, inl refl);
     adds = prefix_more took before now later (texts_of so_far.chunks) [] so_far.adds (record { sent = []; unsent = []; whole = refl; adds = fault });
     rose = rose;
   }
@@ -187,14 +187,14 @@ module _ {R O : Type 0} (rules : LineRules R) (took : O → O → List ℕ → T
         (got.0, got.1, more.2 ∙ ap (λ ls. lines_taken so_far.chunks ++ ls) got.2.lines ∙ lines_then so_far.chunks (chunk_of new.line text) (lines_of got.0))
 
     -- the sink failed within its text
-    pub breaks_within : (read : Reading) (faults : O → Faults) (later : O) → read.input ≡ input → AddsPrefix took now later text → Rose (faults before) (faults later) → BreaksOff rules read took faults before later first
+    pub breaks_within : (read : Reading) (faults : O → Faults) (later : O) → read.input ≡ input → AddsPrefix took now later text → Rose (faults before) (faults later) → BreaksOff rules read took faults before later first next
     unfolding chunks_now
     breaks_within read faults later same fault rose = record {
       chunks = chunks_now;
       last = next;
       text = [];
       path = path_now;
-      ends = inl (refl, subst (λ (i : Option (List ℕ)). FirstLines i chunks_now) (sym same) (λ bytes told. let more = rest_now bytes told in (lines_of more.0, more.2)));
+      ends = inl (refl, subst (λ (i : Option (List ℕ)). FirstLines i chunks_now) (sym same) (λ bytes told. let more = rest_now bytes told in (lines_of more.0, more.2)), inl refl);
       adds = prefix_equal took before later (texts_of so_far.chunks ++ text) (texts_of chunks_now ++ []) (sym (texts_more so_far.chunks (chunk_of new.line text)) ∙ sym (append-nil (texts_of chunks_now)))
           (prefix_more took before now later (texts_of so_far.chunks) text so_far.adds fault);
       rose = rose;

@@ -14,9 +14,9 @@ use Rattle.line_run.specs.Chunks.{Chunk, chunk_of}
 pub record LineRules (R : Type 0) : Type 1 where
   -- from the first state the line is taken, this text is written for it, and the run goes on from the other state
   pub takes : R → Chunk → R → Type 0
-  -- at this line the run ends, with this last text
-  pub stops : R → List ℕ → End → List ℕ → Type 0
-  -- at the end of the input the run ends, with this last text
+  -- from the first state the run ends at this line, in the other state and with this last text
+  pub stops : R → List ℕ → R → End → List ℕ → Type 0
+  -- at the end of the input the run ends, with this last text, and the state stays
   pub over : R → End → List ℕ → Type 0
   -- whatever the line, nothing is written for it
   pub quiet : Type 0
@@ -45,13 +45,13 @@ pub record BreaksWithinLine {R O : Type 0} (rules : LineRules R) (took : O → O
   pub adds : AddsPrefix took before now text
 
 -- the line ends the run, and this is to be written last; nothing was yet
-pub record StopsAtLine {R O : Type 0} (rules : LineRules R) (before now : O) (old : R) (line : List ℕ) (end : End) (last : List ℕ) : Type 0 where
+pub record StopsAtLine {R O : Type 0} (rules : LineRules R) (before now : O) (old new : R) (line : List ℕ) (end : End) (last : List ℕ) : Type 0 where
   pub own : IsOwnEnd end.status
-  pub stops : rules.stops old line end last
+  pub stops : rules.stops old line new end last
   pub unsent : now ≡ before
 
 -- what comes of a line; `last` is the last text of a run that ended for a reason
 abbrev pub ComesOfLine : {R O : Type 0} → LineRules R → (O → O → List ℕ → Type 0) → (Why → List ℕ) → O → O → R → R → List ℕ → Result (Option Why) WriteError → Type 0
 ComesOfLine rules took last before now old new line (Ok None) = TakesLine rules took before now old new line
-ComesOfLine rules took last before now old new line (Ok (Some why)) = StopsAtLine rules before now old line (end_of why) (last why)
+ComesOfLine rules took last before now old new line (Ok (Some why)) = StopsAtLine rules before now old new line (end_of why) (last why)
 ComesOfLine rules took last before now old new line (Err _) = BreaksWithinLine rules took before now old new line

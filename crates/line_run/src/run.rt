@@ -61,10 +61,10 @@ fn take_lines<T: LineTaker, S: Source, B: PassesOn>(
     requires going { line.old.ended ≡ false }
     ensures comes { IfOk result (λ why. ComesTo T.rules
         (reading S.left S.faults source.old source.new)
-        B.took out.old out.new taker.old (end_of why) (T.last_text taker.new line.new.line why)) }
+        B.took out.old out.new taker.old taker.new (end_of why) (T.last_text taker.new line.new.line why)) }
     ensures breaks { OnErr result (BreaksOff T.rules
         (reading S.left S.faults source.old source.new)
-        B.took B.faults out.old out.new taker.old) }
+        B.took B.faults out.old out.new taker.old taker.new) }
     ensures quiet { T.rules.quiet → B.is_empty out.old → out.new ≡ out.old }
     ensures holds { IfOk result (λ _. T.holds taker.new) }
     ensures fault { result ≡ Ok Why.ReadFault → Rose (S.faults source.old) (S.faults source.new) }
@@ -100,9 +100,9 @@ fn take_gathered<T: LineTaker, S: Source, O: Sink>(
     requires fresh { line.old.ahead ≡ [] }
     requires going { line.old.ended ≡ false }
     ensures comes { IfOk result (λ why. ComesTo T.rules (reading S.left S.faults source.old source.new)
-        O.took sink.old sink.new taker.old (end_of why) (T.last_text taker.new line.new.line why)) }
+        O.took sink.old sink.new taker.old taker.new (end_of why) (T.last_text taker.new line.new.line why)) }
     ensures breaks { OnErr result (BreaksOff T.rules (reading S.left S.faults source.old source.new)
-        O.took O.faults sink.old sink.new taker.old) }
+        O.took O.faults sink.old sink.new taker.old taker.new) }
     ensures quiet { T.rules.quiet → sink.new ≡ sink.old }
     ensures holds { IfOk result (λ _. T.holds taker.new) }
     ensures fault { result ≡ Ok Why.ReadFault → Rose (S.faults source.old) (S.faults source.new) }
@@ -143,7 +143,7 @@ fn put_end<T: LineTaker, O: Sink>(taker: &T, line: &[u8], why: Why, sink: &mut O
 /// writes the last text. What is written is gathered, and goes out where 64 KiB are full, before a read that may wait,
 /// before the last text, and at the end. It takes no memory.
 ///
-/// It answers why the run ended. Where the sink fails, that is the reason, but for want of memory, which stays it.
+/// It answers why the run ended, and leaves the taker in the state in which it did. Where the sink fails, that is the reason, but for want of memory, which stays it.
 pub fn run_lines<T: LineTaker, S: Source, O: Sink>(
     taker: &mut T,
     line: &mut LineBuf,
@@ -156,7 +156,7 @@ pub fn run_lines<T: LineTaker, S: Source, O: Sink>(
     requires fresh { line.old.ahead ≡ [] }
     requires going { line.old.ended ≡ false }
     ensures { RunsTo T.rules (reading S.left S.faults source.old source.new)
-        O.took O.faults sink.old sink.new taker.old (end_of result) }
+        O.took O.faults sink.old sink.new taker.old taker.new (end_of result) }
 {
     let Ok(why) = take_gathered(taker, line, room, source, sink) else {
         return Why::WriteFault;

@@ -41,7 +41,7 @@ pub trait LineTaker {
         requires { holds self.now }
         ensures own { IsOwnEnd (end_of result).status }
         ensures stops { (line shown : List ℕ) → MOST_LINE < length line
-            → rules.stops self.now line (end_of result) (last_text self.now shown result) };
+            → rules.stops self.now line self.now (end_of result) (last_text self.now shown result) };
 
     /// Says why the run ends at the end of the input.
     fn at_end(&self) -> Why

@@ -19,7 +19,7 @@ struct Echo {
 impl LineTaker for Echo {
     ghost rules = { record {
       takes = λ _ _ _. Unit {0};
-      stops = λ _ _ _ _. Unit {0};
+      stops = λ _ _ _ _ _. Unit {0};
       over = λ _ _ _. Unit {0};
       quiet = ⊥;
     } };

@@ -83,6 +83,6 @@ module _ (old next : Audit) (line : List ℕ) where
 -- ---- what a call took
 -- a line of numbers that was taken, or at which the run ends
 pub comes_of : {O : Type 0} (took : O → O → List ℕ → Type 0) (sink : O) (old middle new : Audit) (line : List ℕ) (result : Option Why) → middle ≡ old → IfNone result (audit_rules.takes middle (chunk_of line []) new)
-    → IfSome result (λ why. IsOwnEnd (end_of why).status × audit_rules.stops middle line (end_of why) (audit_last new line why)) → ComesOfLine audit_rules took (audit_last new line) sink sink old new line (Ok result)
+    → IfSome result (λ why. IsOwnEnd (end_of why).status × audit_rules.stops middle line new (end_of why) (audit_last new line why)) → ComesOfLine audit_rules took (audit_last new line) sink sink old new line (Ok result)
 comes_of took sink old middle new line None same takes stops = record { text = []; takes = subst (λ (audit : Audit). audit_rules.takes audit (chunk_of line []) new) same takes; adds = adds_nothing took sink }
-comes_of took sink old middle new line (Some why) same takes stops = record { own = stops.0; stops = subst (λ (audit : Audit). audit_rules.stops audit line (end_of why) (audit_last new line why)) same stops.1; unsent = refl }
+comes_of took sink old middle new line (Some why) same takes stops = record { own = stops.0; stops = subst (λ (audit : Audit). audit_rules.stops audit line new (end_of why) (audit_last new line why)) same stops.1; unsent = refl }

@@ -88,18 +88,18 @@ one_end P state line after bad spent differs next =
 over_end : (P : Status → Type 0) (state : AuditState) → P Done → P BadLine → P (audit_over state).end.status
 over_end P state done bad = cond_case (λ e. P e.end.status) (is_first state.kind) _ _ done bad
 
-known_end : (read : Reading) (chunks : List Chunk) (last : Audit) (end : End) (text : List ℕ) → EndsAfter audit_rules read chunks last end text → IsAuditEnd end.status
+known_end : (read : Reading) (chunks : List Chunk) (last final : Audit) (end : End) (text : List ℕ) → EndsAfter audit_rules read chunks last final end text → IsAuditEnd end.status
 unfolding after_as
-known_end read chunks last end text (inl at_line) =
+known_end read chunks last final end text (inl at_line) =
     subst IsAuditEnd (ap (λ (e : Ending). e.end.status) (at_line.1 (λ _. after_as Done))) (one_end IsAuditEnd (auditing last) at_line.0 (after_as Done) tt tt tt tt)
-known_end read chunks last end text (inr over) = subst IsAuditEnd (ap (λ (e : Ending). e.end.status) over.0) (over_end IsAuditEnd (auditing last) tt tt)
+known_end read chunks last final end text (inr over) = subst IsAuditEnd (ap (λ (e : Ending). e.end.status) over.0) (over_end IsAuditEnd (auditing last) tt tt)
 
 -- no line ends an audit well
-done_over : (read : Reading) (chunks : List Chunk) (last : Audit) (end : End) (text : List ℕ) → EndsAfter audit_rules read chunks last end text → end.status ≡ Done → IsAtEnd read.left
+done_over : (read : Reading) (chunks : List Chunk) (last final : Audit) (end : End) (text : List ℕ) → EndsAfter audit_rules read chunks last final end text → end.status ≡ Done → IsAtEnd read.left
 unfolding after_as
-done_over read chunks last end text (inl at_line) done =
+done_over read chunks last final end text (inl at_line) done =
     absurd (subst IsNotDone (ap (λ (e : Ending). e.end.status) (at_line.1 (λ _. after_as BadLine)) ∙ done) (one_end IsNotDone (auditing last) at_line.0 (after_as BadLine) tt tt tt tt))
-done_over read chunks last end text (inr over) done = over.2
+done_over read chunks last final end text (inr over) done = over.2
 
 -- ---- each log that was read so far can be completed
 
@@ -154,24 +154,24 @@ listed_by NoMemory known = (4, lit< tt, refl)
 listed_by Spent known = (5, lit< tt, refl)
 listed_by NotKarma known = (6, lit< tt, refl)
 
-module _ {O : Type 0} (read : Reading) (took : O → O → List ℕ → Type 0) (faults : O → Faults) (before now : O) (shape : Shape) (first : Audit) (end : End)
-    (run : RunsTo audit_rules read took faults before now first end) (opens_as : auditing first ≡ audit_state (opening_book shape) Quantum false 0) where
+module _ {O : Type 0} (read : Reading) (took : O → O → List ℕ → Type 0) (faults : O → Faults) (before now : O) (shape : Shape) (first final : Audit) (end : End)
+    (run : RunsTo audit_rules read took faults before now first final end) (opens_as : auditing first ≡ audit_state (opening_book shape) Quantum false 0) where
   pub never_short : end.status ≡ NoMemory → ⊥
-  never_short is = let short = run.no_memory is in subst IsAuditEnd is (known_end read short.chunks short.last end short.text short.ends)
+  never_short is = let short = run.no_memory is in subst IsAuditEnd is (known_end read short.chunks short.last final end short.text short.ends)
 
   part_by : (status : Status) → end.status ≡ status → WritesPrefix took before now read.input (audit_end (auditing first))
-  part_by Done is = whole_part (Unit {0}) auditing IsFit audit_one audit_over audit_end audit_over_is audit_line_is read took faults before now first end (run.whole (subst IsWhole (sym is) tt))
+  part_by Done is = whole_part (Unit {0}) auditing IsFit audit_one audit_over audit_end audit_over_is audit_line_is read took faults before now first final end (run.whole (subst IsWhole (sym is) tt))
   part_by BadWords is = absurd (run.known is)
-  part_by BadLine is = whole_part (Unit {0}) auditing IsFit audit_one audit_over audit_end audit_over_is audit_line_is read took faults before now first end (run.whole (subst IsWhole (sym is) tt))
-  part_by ReadFault is = fault_part (Unit {0}) auditing IsFit audit_one audit_over audit_end audit_over_is audit_line_is read took faults before now first (run.read_fault is)
-  part_by WriteFault is = break_part (Unit {0}) auditing IsFit audit_one audit_over audit_end audit_over_is audit_line_is read took faults before now first (run.write_fault is)
+  part_by BadLine is = whole_part (Unit {0}) auditing IsFit audit_one audit_over audit_end audit_over_is audit_line_is read took faults before now first final end (run.whole (subst IsWhole (sym is) tt))
+  part_by ReadFault is = fault_part (Unit {0}) auditing IsFit audit_one audit_over audit_end audit_over_is audit_line_is read took faults before now first final (run.read_fault is)
+  part_by WriteFault is = break_part (Unit {0}) auditing IsFit audit_one audit_over audit_end audit_over_is audit_line_is read took faults before now first final (run.write_fault is)
   part_by NoMemory is = absurd (never_short is)
-  part_by Spent is = whole_part (Unit {0}) auditing IsFit audit_one audit_over audit_end audit_over_is audit_line_is read took faults before now first end (run.whole (subst IsWhole (sym is) tt))
-  part_by NotKarma is = whole_part (Unit {0}) auditing IsFit audit_one audit_over audit_end audit_over_is audit_line_is read took faults before now first end (run.whole (subst IsWhole (sym is) tt))
+  part_by Spent is = whole_part (Unit {0}) auditing IsFit audit_one audit_over audit_end audit_over_is audit_line_is read took faults before now first final end (run.whole (subst IsWhole (sym is) tt))
+  part_by NotKarma is = whole_part (Unit {0}) auditing IsFit audit_one audit_over audit_end audit_over_is audit_line_is read took faults before now first final end (run.whole (subst IsWhole (sym is) tt))
 
   ends_as_audited : IsWhole end.status → EndsAs read.input (audited shape) end
   ends_as_audited whole = subst (λ (s : AuditState). EndsAs read.input (audit_end s) end) opens_as
-      (whole_ends (Unit {0}) auditing IsFit audit_one audit_over audit_end audit_over_is audit_line_is read took faults before now first end (run.whole whole))
+      (whole_ends (Unit {0}) auditing IsFit audit_one audit_over audit_end audit_over_is audit_line_is read took faults before now first final end (run.whole whole))
 
   seen_at : IsPlan shape → end.status ≡ ReadFault → Seen read.input read.left (λ lines. (more : List (List ℕ)) × IsKarmaLog shape (lines ++ more))
   seen_at plan is = λ bytes told.
@@ -190,14 +190,14 @@ module _ {O : Type 0} (read : Reading) (took : O → O → List ℕ → Type 0) 
   audited_to plan = record {
     listed = listed_by end.status run.known;
     whole = λ whole. subst (λ (s : AuditState). WritesText took before now read.input (audit_end s)) opens_as
-        (whole_text (Unit {0}) auditing IsFit audit_one audit_over audit_end audit_over_is audit_line_is read took faults before now first end (run.whole whole));
+        (whole_text (Unit {0}) auditing IsFit audit_one audit_over audit_end audit_over_is audit_line_is read took faults before now first final end (run.whole whole));
     ends = ends_as_audited;
     part = subst (λ (s : AuditState). WritesPrefix took before now read.input (audit_end s)) opens_as (part_by end.status refl);
     seen = seen_at plan;
     unsent = λ is. (run.read_fault is).unsent tt;
     accepts = λ is bytes told. accepts shape (lines_of bytes) plan (ap (λ (e : End). e.status) (ends_as_audited (subst IsWhole (sym is) tt) bytes told) ∙ is);
     accepted = λ whole bytes told log. ap (λ (e : End). e.status) (sym (ends_as_audited whole bytes told)) ∙ accepted shape (lines_of bytes) plan log;
-    at_end = λ is. let run_end = run.whole (subst IsWhole (sym is) tt) in done_over read run_end.chunks run_end.last end run_end.text run_end.ends is;
+    at_end = λ is. let run_end = run.whole (subst IsWhole (sym is) tt) in done_over read run_end.chunks run_end.last final end run_end.text run_end.ends is;
     read_fault = λ is. (run.read_fault is).rose;
     write_fault = λ is. (run.write_fault is).rose;
     source = run.source;

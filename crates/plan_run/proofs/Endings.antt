@@ -6,7 +6,7 @@ use Rattle.far_io.specs.Lines.{lines_of}
 use Rattle.far_io.proofs.Adds.{adds_equal}
 use Rattle.run_end.specs.Why.{End}
 use Rattle.line_run.specs.Chunks.{Chunk, lines_taken, texts_of, Path, FirstLines}
-use Rattle.line_run.specs.Runs.{Reading, EndsAfter, RunsToEnd, RunsToFault, BreaksOff}
+use Rattle.line_run.specs.Runs.{Reading, EndsAfter, IsLeftAfter, RunsToEnd, RunsToFault, BreaksOff}
 use Rattle.line_run.proofs.Growing.{lines_none, texts_none, lines_first, texts_first}
 use Rattle.plan_run.specs.Ending.{Ending, after_text, rules_of}
 use Rattle.plan_run.specs.Writes.{WritesText, EndsAs, WritesPrefix}
@@ -49,9 +49,9 @@ module _ {R S : Type 0} (quiet : Type 0) (view : R → S) (fits : S → Type 0) 
   chunks_are first last chunks path =
       ap (ending (view first)) (sym (append-nil (lines_taken chunks))) ∙ path_is first last chunks path [] ∙ ap (after_text (texts_of chunks)) (none_is (view last))
 
-  module _ {O : Type 0} (read : Reading) (took : O → O → List ℕ → Type 0) (faults : O → Faults) (before now : O) (first : R) where
+  module _ {O : Type 0} (read : Reading) (took : O → O → List ℕ → Type 0) (faults : O → Faults) (before now : O) (first final : R) where
     -- the run ended after these chunks
-    ends_are : (chunks : List Chunk) (last : R) (end : End) (text : List ℕ) → Path (rules_of quiet view fits one none).takes first chunks last → EndsAfter (rules_of quiet view fits one none) read chunks last end text
+    ends_are : (chunks : List Chunk) (last : R) (end : End) (text : List ℕ) → Path (rules_of quiet view fits one none).takes first chunks last → EndsAfter (rules_of quiet view fits one none) read chunks last final end text
         → (bytes : List ℕ) → read.input ≡ Some bytes → ending (view first) (lines_of bytes) ≡ record { text = texts_of chunks ++ text; end = end }
     ends_are chunks last end text path (inl at_line) bytes told =
         let it = at_line.2 bytes told in
@@ -66,23 +66,23 @@ module _ {R S : Type 0} (quiet : Type 0) (view : R → S) (fits : S → Type 0) 
         let it = firsts bytes told in
         ((ending (view last) it.0).text, ap (λ ls. (ending (view first) ls).text) it.1 ∙ ap (λ (e : Ending). e.text) (path_is first last chunks path it.0))
 
-    pub whole_text : (end : End) → RunsToEnd (rules_of quiet view fits one none) read took before now first end → WritesText took before now read.input (ending (view first))
+    pub whole_text : (end : End) → RunsToEnd (rules_of quiet view fits one none) read took before now first final end → WritesText took before now read.input (ending (view first))
     whole_text end run = λ bytes told. adds_equal took before now (texts_of run.chunks ++ run.text) (ending (view first) (lines_of bytes)).text
         (sym (ap (λ (e : Ending). e.text) (ends_are run.chunks run.last end run.text run.path run.ends bytes told))) run.adds
 
-    pub whole_ends : (end : End) → RunsToEnd (rules_of quiet view fits one none) read took before now first end → EndsAs read.input (ending (view first)) end
+    pub whole_ends : (end : End) → RunsToEnd (rules_of quiet view fits one none) read took before now first final end → EndsAs read.input (ending (view first)) end
     whole_ends end run = λ bytes told. ap (λ (e : Ending). e.end) (ends_are run.chunks run.last end run.text run.path run.ends bytes told)
 
-    pub whole_part : (end : End) → RunsToEnd (rules_of quiet view fits one none) read took before now first end → WritesPrefix took before now read.input (ending (view first))
+    pub whole_part : (end : End) → RunsToEnd (rules_of quiet view fits one none) read took before now first final end → WritesPrefix took before now read.input (ending (view first))
     whole_part end run = λ bytes told. all_of took before now (ending (view first) (lines_of bytes)).text (whole_text end run bytes told)
 
-    pub fault_part : RunsToFault (rules_of quiet view fits one none) read took before now first → WritesPrefix took before now read.input (ending (view first))
+    pub fault_part : RunsToFault (rules_of quiet view fits one none) read took before now first final → WritesPrefix took before now read.input (ending (view first))
     fault_part run = λ bytes told.
         let rest = first_text run.chunks run.last run.path run.firsts bytes told in
         prefix_first took before now (texts_of run.chunks) rest.0 (ending (view first) (lines_of bytes)).text rest.1 (all_of took before now (texts_of run.chunks) run.adds)
 
     break_prefix : (chunks : List Chunk) (last : R) (text : List ℕ) → Path (rules_of quiet view fits one none).takes first chunks last
-        → ((text ≡ []) × FirstLines read.input chunks) ⊎ ((end : End) × EndsAfter (rules_of quiet view fits one none) read chunks last end text) → AddsPrefix took before now (texts_of chunks ++ text)
+        → ((text ≡ []) × FirstLines read.input chunks × IsLeftAfter (rules_of quiet view fits one none) read chunks last final) ⊎ ((end : End) × EndsAfter (rules_of quiet view fits one none) read chunks last final end text) → AddsPrefix took before now (texts_of chunks ++ text)
         → WritesPrefix took before now read.input (ending (view first))
     break_prefix chunks last text path (inl firsts) fault = λ bytes told.
         let rest = first_text chunks last path firsts.1 bytes told in
@@ -92,5 +92,5 @@ module _ {R S : Type 0} (quiet : Type 0) (view : R → S) (fits : S → Type 0) 
         prefix_first took before now (texts_of chunks ++ text) [] (ending (view first) (lines_of bytes)).text
         (ap (λ (e : Ending). e.text) (ends_are chunks last ends.0 text path ends.1 bytes told) ∙ sym (append-nil (texts_of chunks ++ text))) fault
 
-    pub break_part : BreaksOff (rules_of quiet view fits one none) read took faults before now first → WritesPrefix took before now read.input (ending (view first))
+    pub break_part : BreaksOff (rules_of quiet view fits one none) read took faults before now first final → WritesPrefix took before now read.input (ending (view first))
     break_part run = break_prefix run.chunks run.last run.text run.path run.ends run.adds

@@ -54,29 +54,29 @@ one_end P book (Some rows) after bad spent next = cond_end P (nat_le (2 ^ 28) bo
 after_as : Status → Ending
 after_as status = record { text = []; end = ends_as status }
 
-known_end : (read : Reading) (chunks : List Chunk) (last : Plan) (end : End) (text : List ℕ) → EndsAfter plan_rules read chunks last end text → IsPlanEnd end.status
+known_end : (read : Reading) (chunks : List Chunk) (last final : Plan) (end : End) (text : List ℕ) → EndsAfter plan_rules read chunks last final end text → IsPlanEnd end.status
 unfolding after_as
-known_end read chunks last end text (inl at_line) =
+known_end read chunks last final end text (inl at_line) =
     subst IsPlanEnd (ap (λ (e : Ending). e.end.status) (at_line.1 (λ _. after_as Done))) (one_end IsPlanEnd last.book (rows_of_line last.book.rows at_line.0) (after_as Done) tt tt tt)
-known_end read chunks last end text (inr over) = subst IsPlanEnd (ap (λ (e : Ending). e.end.status) over.0) tt
+known_end read chunks last final end text (inr over) = subst IsPlanEnd (ap (λ (e : Ending). e.end.status) over.0) tt
 
 -- no line ends a plan well
 abbrev IsNotDone : Status → Type 0
 IsNotDone Done = ⊥
 IsNotDone status = Unit {0}
 
-done_over : (read : Reading) (chunks : List Chunk) (last : Plan) (end : End) (text : List ℕ) → EndsAfter plan_rules read chunks last end text → end.status ≡ Done → IsAtEnd read.left
+done_over : (read : Reading) (chunks : List Chunk) (last final : Plan) (end : End) (text : List ℕ) → EndsAfter plan_rules read chunks last final end text → end.status ≡ Done → IsAtEnd read.left
 unfolding after_as
-done_over read chunks last end text (inl at_line) done =
+done_over read chunks last final end text (inl at_line) done =
     absurd (subst IsNotDone (ap (λ (e : Ending). e.end.status) (at_line.1 (λ _. after_as BadLine)) ∙ done) (one_end IsNotDone last.book (rows_of_line last.book.rows at_line.0) (after_as BadLine) tt tt tt))
-done_over read chunks last end text (inr over) done = over.2
+done_over read chunks last final end text (inr over) done = over.2
 
-done_lines : (read : Reading) (chunks : List Chunk) (last : Plan) (end : End) (text : List ℕ) → EndsAfter plan_rules read chunks last end text → end.status ≡ Done
+done_lines : (read : Reading) (chunks : List Chunk) (last final : Plan) (end : End) (text : List ℕ) → EndsAfter plan_rules read chunks last final end text → end.status ≡ Done
     → (text ≡ []) × ((bytes : List ℕ) → read.input ≡ Some bytes → lines_of bytes ≡ lines_taken chunks)
 unfolding after_as
-done_lines read chunks last end text (inl at_line) done =
+done_lines read chunks last final end text (inl at_line) done =
     absurd (subst IsNotDone (ap (λ (e : Ending). e.end.status) (at_line.1 (λ _. after_as BadLine)) ∙ done) (one_end IsNotDone last.book (rows_of_line last.book.rows at_line.0) (after_as BadLine) tt tt tt))
-done_lines read chunks last end text (inr over) done = (sym (ap (λ (e : Ending). e.text) over.0), over.1)
+done_lines read chunks last final end text (inr over) done = (sym (ap (λ (e : Ending). e.text) over.0), over.1)
 
 listed_by : (status : Status) → (status ≡ BadWords → ⊥) → (status ≡ NotKarma → ⊥) → Contains plan_statuses status
 listed_by Done known own = (0, lit< tt, refl)
@@ -88,22 +88,22 @@ listed_by NoMemory known own = (4, lit< tt, refl)
 listed_by Spent known own = (5, lit< tt, refl)
 listed_by NotKarma known own = absurd (own refl)
 
-module _ {O : Type 0} (read : Reading) (took : O → O → List ℕ → Type 0) (faults : O → Faults) (before now : O) (shape : Shape) (first : Plan) (end : End)
-    (run : RunsTo plan_rules read took faults before now first end) (opens : first.book ≡ opening_book shape) where
+module _ {O : Type 0} (read : Reading) (took : O → O → List ℕ → Type 0) (faults : O → Faults) (before now : O) (shape : Shape) (first final : Plan) (end : End)
+    (run : RunsTo plan_rules read took faults before now first final end) (opens : first.book ≡ opening_book shape) where
   pub never_short : end.status ≡ NoMemory → ⊥
-  never_short is = let short = run.no_memory is in subst IsPlanEnd is (known_end read short.chunks short.last end short.text short.ends)
+  never_short is = let short = run.no_memory is in subst IsPlanEnd is (known_end read short.chunks short.last final end short.text short.ends)
 
   never_differs : end.status ≡ NotKarma → ⊥
-  never_differs is = let whole = run.whole (subst IsWhole (sym is) tt) in subst IsPlanEnd is (known_end read whole.chunks whole.last end whole.text whole.ends)
+  never_differs is = let whole = run.whole (subst IsWhole (sym is) tt) in subst IsPlanEnd is (known_end read whole.chunks whole.last final end whole.text whole.ends)
 
   part_by : (status : Status) → end.status ≡ status → WritesPrefix took before now read.input (plan_end first.book)
-  part_by Done is = whole_part ⊥ plan_book (λ _. Unit {0}) plan_one plan_over plan_end plan_nothing plan_line_is read took faults before now first end (run.whole (subst IsWhole (sym is) tt))
+  part_by Done is = whole_part ⊥ plan_book (λ _. Unit {0}) plan_one plan_over plan_end plan_nothing plan_line_is read took faults before now first final end (run.whole (subst IsWhole (sym is) tt))
   part_by BadWords is = absurd (run.known is)
-  part_by BadLine is = whole_part ⊥ plan_book (λ _. Unit {0}) plan_one plan_over plan_end plan_nothing plan_line_is read took faults before now first end (run.whole (subst IsWhole (sym is) tt))
-  part_by ReadFault is = fault_part ⊥ plan_book (λ _. Unit {0}) plan_one plan_over plan_end plan_nothing plan_line_is read took faults before now first (run.read_fault is)
-  part_by WriteFault is = break_part ⊥ plan_book (λ _. Unit {0}) plan_one plan_over plan_end plan_nothing plan_line_is read took faults before now first (run.write_fault is)
+  part_by BadLine is = whole_part ⊥ plan_book (λ _. Unit {0}) plan_one plan_over plan_end plan_nothing plan_line_is read took faults before now first final end (run.whole (subst IsWhole (sym is) tt))
+  part_by ReadFault is = fault_part ⊥ plan_book (λ _. Unit {0}) plan_one plan_over plan_end plan_nothing plan_line_is read took faults before now first final (run.read_fault is)
+  part_by WriteFault is = break_part ⊥ plan_book (λ _. Unit {0}) plan_one plan_over plan_end plan_nothing plan_line_is read took faults before now first final (run.write_fault is)
   part_by NoMemory is = absurd (never_short is)
-  part_by Spent is = whole_part ⊥ plan_book (λ _. Unit {0}) plan_one plan_over plan_end plan_nothing plan_line_is read took faults before now first end (run.whole (subst IsWhole (sym is) tt))
+  part_by Spent is = whole_part ⊥ plan_book (λ _. Unit {0}) plan_one plan_over plan_end plan_nothing plan_line_is read took faults before now first final end (run.whole (subst IsWhole (sym is) tt))
   part_by NotKarma is = absurd (never_differs is)
 
   -- what is planned for the lines of chunks that were taken
@@ -123,7 +123,7 @@ module _ {O : Type 0} (read : Reading) (took : O → O → List ℕ → Type 0) 
   log_at : IsPlan shape → end.status ≡ Done → WritesLog took before now shape read.input
   log_at plan is =
       let run_end = run.whole (subst IsWhole (sym is) tt) in
-      let over = done_lines read run_end.chunks run_end.last end run_end.text run_end.ends is in
+      let over = done_lines read run_end.chunks run_end.last final end run_end.text run_end.ends is in
       let whole = chunks_planned run_end.last run_end.chunks (chunks_are ⊥ plan_book (λ _. Unit {0}) plan_one plan_over plan_end plan_nothing plan_line_is first run_end.last run_end.chunks run_end.path) in
       let text_is : (planned shape (lines_taken run_end.chunks)).text ≡ texts_of run_end.chunks = ap (λ (e : Ending). e.text) whole in
       record {
@@ -137,13 +137,13 @@ module _ {O : Type 0} (read : Reading) (took : O → O → List ℕ → Type 0) 
   planned_to plan = record {
     listed = listed_by end.status run.known never_differs;
     whole = λ whole. subst (λ (b : BookView). WritesText took before now read.input (plan_end b)) opens
-        (whole_text ⊥ plan_book (λ _. Unit {0}) plan_one plan_over plan_end plan_nothing plan_line_is read took faults before now first end (run.whole whole));
+        (whole_text ⊥ plan_book (λ _. Unit {0}) plan_one plan_over plan_end plan_nothing plan_line_is read took faults before now first final end (run.whole whole));
     ends = λ whole. subst (λ (b : BookView). EndsAs read.input (plan_end b) end) opens
-        (whole_ends ⊥ plan_book (λ _. Unit {0}) plan_one plan_over plan_end plan_nothing plan_line_is read took faults before now first end (run.whole whole));
+        (whole_ends ⊥ plan_book (λ _. Unit {0}) plan_one plan_over plan_end plan_nothing plan_line_is read took faults before now first final end (run.whole whole));
     part = subst (λ (b : BookView). WritesPrefix took before now read.input (plan_end b)) opens (part_by end.status refl);
     seen = seen_at;
     log = log_at plan;
-    at_end = λ is. let run_end = run.whole (subst IsWhole (sym is) tt) in done_over read run_end.chunks run_end.last end run_end.text run_end.ends is;
+    at_end = λ is. let run_end = run.whole (subst IsWhole (sym is) tt) in done_over read run_end.chunks run_end.last final end run_end.text run_end.ends is;
     read_fault = λ is. (run.read_fault is).rose;
     write_fault = λ is. (run.write_fault is).rose;
     source = run.source;

@@ -24,7 +24,7 @@ after_text bytes ending = record { text = bytes ++ ending.text; end = ending.end
 abbrev pub rules_of : {R S : Type 0} → Type 0 → (R → S) → (S → Type 0) → (S → List ℕ → (S → Ending) → Ending) → (S → Ending) → LineRules R
 rules_of quiet view fits one none = record {
   takes = λ state chunk next. ((others : _ → Ending) → one (view state) chunk.line others ≡ after_text chunk.text (others (view next))) × (fits (view state) → fits (view next));
-  stops = λ state line end text. (others : _ → Ending) → one (view state) line others ≡ record { text = text; end = end };
+  stops = λ state line final end text. (others : _ → Ending) → one (view state) line others ≡ record { text = text; end = end };
   over = λ state end text. none (view state) ≡ record { text = text; end = end };
   quiet = quiet;
 }

@@ -237,7 +237,7 @@ impl Audit {
         requires no_shares { due_roster self.old.book self.old.kind self.old.shares_read line.now ≡ None }
         ensures takes { IfNone result (audit_rules.takes self.old (chunk_of line.now []) self.new) }
         ensures stops { IfSome result (λ why. IsOwnEnd (end_of why).status
-            × audit_rules.stops self.old line.now (end_of why) (audit_last self.new line.now why)) }
+            × audit_rules.stops self.old line.now self.new (end_of why) (audit_last self.new line.now why)) }
         ensures auditing { IsAuditing self.new }
         ensures ends { IfNone result (self.old.number < self.new.number) }
     {
@@ -313,9 +313,10 @@ impl LineTaker for Audit {
     }
 }
 
-/// Judges a log of quantum blocks, as `run_plan` writes them, by the rule: the numbers of its quanta from 0, and the
-/// slices and credits that the rule gives for the demands that it prints. A good log gets `ok` and the count of its
-/// blocks; its last line end may be missing.
+/// Judges a log of quantum blocks by the rule: the numbers of its quanta from 0, and the slices and credits that the
+/// rule gives for the demands that a block prints, for its roster, and for the credits of the block before. A roster is
+/// that of the block's line of shares, or of the block before, and at first that of the shape. A good log gets `ok` and
+/// the count of its blocks; its last line end may be missing.
 ///
 /// It answers why it ended: where all is well, at the first line outside the grammar, or missing, with its number,
 /// where the source failed, where the sink failed, for want of memory, where a line stands after 2^28 blocks, or at the

@@ -1,12 +1,15 @@
 -- What a whole replay came to, over an input that is told or not.
-use Rattle.std.specs.Prelude.{◌≡◌, ℕ, ◌+◌, ◌<◌, ◌≤◌, ◌⊎◌, List, [], ◌∷◌, ◌++◌, length, All, Some, None}
+use Rattle.std.specs.Prelude.{◌≡◌, ℕ, ◌+◌, ◌<◌, ◌≤◌, ◌⊎◌, List, [], ◌∷◌, ◌++◌, length, All, Some}
 use Rattle.std.specs.declared.option.Option.{Option}
 use Rattle.karma_rule.specs.declared.shape.Shape.{Shape}
 use Rattle.far_io.specs.Adds.{Adds, AddsPrefix}
 use Rattle.far_io.specs.Faults.{Faults, Rose, Follows}
 use Rattle.far_io.specs.Left.{IsAtEnd}
 use Rattle.far_io.specs.Lines.{lines_of}
-use Rattle.far_core.specs.Runs.{IsCoreRun}
+use Rattle.shelf_link.specs.Told.{Told}
+use Rattle.tenant_world.specs.Views.{TenantView}
+use Rattle.far_core.specs.Runs.{CoreEntry, IsCoreRun}
+use Rattle.far_core.specs.Cores.{HaveHistories, AreLegal}
 use Rattle.run_end.specs.LastLines.{bad_line, spent_line, no_memory_line}
 use Rattle.run_end.specs.Status.{IsWhole}
 use Rattle.run_end.specs.Why.{End}
@@ -16,6 +19,7 @@ use Rattle.line_run.specs.Chunks.{HasRead}
 use Rattle.line_run.specs.Runs.{Reading}
 use Rattle.replay_run.specs.declared.TheConstants.{MOST_LINES}
 use Rattle.replay_run.specs.Trace.{TracedLine, IsTraced, IsBadLine, IsScript, script_of, output_of, run_of}
+use Rattle.replay_run.specs.Rules.{IsBegunLine}
 
 -- lines of a script that make a run of a core
 pub record IsTrace (shape : Shape) (trace : List TracedLine) : Type 0 where
@@ -114,11 +118,52 @@ EndsReplay read took faults before now trace Spent number = EndsSpent read took 
 EndsReplay read took faults before now trace BadWords number = ⊥
 EndsReplay read took faults before now trace NotKarma number = ⊥
 
--- What a replay that ended so came to: the lines that were replayed, with all that they made and wrote. All is well exactly where the lines of the
--- input are a script, but for faults and memory.
-pub record ReplaysTo {O : Type 0} (read : Reading) (took : O → O → List ℕ → Type 0) (faults : O → Faults) (before now : O) (shape : Shape) (end : End) : Type 0 where
+-- the stores that the users' tenants were made over, with what they tell and count, and the tenants that came back
+pub record Serving (K : Type 0) : Type 0 where
+  pub told : K → Told
+  pub faults : K → Faults
+  pub shelves : List K
+  pub tenants : List (TenantView K)
+
+abbrev pub serving : {K : Type 0} → (K → Told) → (K → Faults) → List K → List (TenantView K) → Serving K
+serving told faults shelves tenants = record { told = told; faults = faults; shelves = shelves; tenants = tenants }
+
+-- the line after these was begun: the first of its events were made, or all of them
+pub record IsBegun (input : Option (List ℕ)) (trace : List TracedLine) (made : List CoreEntry) : Type 0 where
+  pub text : List ℕ
+  pub begun : IsBegunLine text made
+  pub next : (bytes : List ℕ) → input ≡ Some bytes → (others : List (List ℕ)) × (lines_of bytes ≡ script_of trace ++ text ∷ others)
+
+-- a run may end within a line
+abbrev pub IsCutOff : Status → Type 0
+IsCutOff WriteFault = Unit {0}
+IsCutOff NoMemory = Unit {0}
+IsCutOff status = ⊥
+
+-- what was made besides the lines that were replayed: nothing, or where the run ended within a line, what was made of it
+abbrev pub AreMadeAfter : Option (List ℕ) → List TracedLine → Status → List CoreEntry → Type 0
+AreMadeAfter input trace status made = (made ≡ []) ⊎ (IsCutOff status × IsBegun input trace made)
+
+-- no memory was found for a core, and nothing was read
+pub record HadNoCore {K : Type 0} (read : Reading) (serves : Serving K) (trace : List TracedLine) (made : List CoreEntry) (status : Status) : Type 0 where
+  pub no_memory : status ≡ NoMemory
+  pub no_tenants : serves.tenants ≡ []
+  pub no_lines : trace ≡ []
+  pub no_events : made ≡ []
+  pub unread : read.left ≡ read.input
+  pub unfailed : read.faults_now ≡ read.faults
+
+-- What a replay that ended so came to: the lines that were replayed, with all that they made and wrote, and the tenants that came back: they have the histories of
+-- these lines and of what was made of the line at which the run ended, over the stores that were handed in. All is well exactly where the lines of the input are a
+-- script, but for faults and memory.
+pub record ReplaysTo {K O : Type 0} (read : Reading) (serves : Serving K) (took : O → O → List ℕ → Type 0) (faults : O → Faults) (before now : O) (shape : Shape) (end : End) : Type 0 where
   pub trace : List TracedLine
   pub is_trace : IsTrace shape trace
+  pub made : List CoreEntry
+  pub made_of : AreMadeAfter read.input trace end.status made
+  pub run : IsCoreRun shape (run_of trace ++ made)
+  pub legal : AreLegal serves.told shape (run_of trace ++ made) 0 serves.shelves
+  pub tenants : HaveHistories serves.told serves.faults shape (run_of trace ++ made) 0 serves.shelves serves.tenants ⊎ HadNoCore read serves trace made end.status
   pub ends : EndsReplay read took faults before now trace end.status end.line
   pub accepts : end.status ≡ Done → (bytes : List ℕ) → read.input ≡ Some bytes → IsScript (lines_of bytes)
   pub accepted : IsWhole end.status → (bytes : List ℕ) → read.input ≡ Some bytes → IsScript (lines_of bytes) → end.status ≡ Done

@@ -57,6 +57,13 @@ output_of trace = flat_map traced_text trace
 unfoldable pub run_of : List TracedLine → List CoreEntry
 run_of trace = flat_map (λ traced. traced.entries) trace
 
+-- an entry without its counts of faults, which no text shows
+abbrev pub uncounted : CoreEntry → CoreEntry
+uncounted entry = record entry { before = 0; after = 0 }
+
+abbrev pub shown : TracedLine → TracedLine
+shown traced = record { line = traced.line; entries = map uncounted traced.entries }
+
 -- the events alone
 unfoldable pub events_of : List CoreEntry → List CoreEvent
 events_of run = map (λ entry. entry.event) run

@@ -1,5 +1,9 @@
 -- the text of words
 pub mod Joined
+-- what small texts stand for
+pub mod ReadBack
+-- stamps, and what was found in their place
+pub mod Stamped
 -- the words of a request
 pub mod Asked
 -- a line is told by its words

@@ -1,133 +1,119 @@
 -- Each outcome and each row of moves has words of its own.
-use Rattle.std.proofs.Common.{◌≡◌, ℕ, ◌^◌, ◌<◌, ◌&&◌, ◌||◌, nat_le, Bool, true, false, cond, eqb, leb, List, [], ◌∷◌, ◌++◌, map, get_or, refl, sym, ◌∙◌, ap, subst, append_assoc, append-nil, arith}
+use Rattle.std.proofs.Common.{◌≡◌, ℕ, ◌<◌, ◌≤◌, ◌||◌, Bool, true, false, cond, List, [], ◌∷◌, ◌++◌, refl, sym, ◌∙◌, ap, subst, append_assoc, append-nil, arith}
 use Rattle.std.specs.Prelude.{codes}
 use Rattle.std.specs.Fmt.{decimal}
 use Rattle.std.specs.List.{list_all}
-use Rattle.std.specs.Cmp.Lexicographic.{pointwise}
-use Rattle.std.proofs.lemmas.Bool.{false≢true, and_parts, leb-true, ne_eqb}
+use Rattle.std.proofs.lemmas.Bool.{false≢true, ne_eqb}
 use Rattle.std.proofs.lemmas.Fmt.{decimal_injective}
 use Rattle.far_io.specs.Escapes.{escaped}
 use Rattle.far_io.specs.Words.{words_of}
-use Rattle.far_io.proofs.Escapes.{escaped_injective}
 use Rattle.far_io.proofs.WordLaws.{words_of-joined}
-use Rattle.far_words.specs.declared.request.Reply.TheVariants.{Done, Number, Bytes, TooLong, Absent, WrongKind, Exists, Full, Exhausted, AbsentUser, NoMemory}
+use Rattle.far_words.specs.declared.request.Reply.TheVariants.{Done, Number, Bytes, TooLong, Absent, WrongKind, Exists, Full, Exhausted, StoreFault, Damaged, AbsentUser, NoMemory}
 use Rattle.far_words.specs.declared.request.Outcome.{Outcome}
 use Rattle.far_words.specs.declared.request.Outcome.TheVariants.{Reply as Replied, Slice, Granted, HandEmpty, PoolEmpty}
 use Rattle.far_words.specs.declared.moves.PlacedRow.{PlacedRow}
 use Rattle.script_text.specs.Words.{joined}
+use Rattle.script_text.specs.Damages.{stamp_text, found_text}
 use Rattle.script_text.specs.Outcomes.{outcome_words, OutcomeFits, HasNoMark}
 use Rattle.script_text.specs.Moves.{freed_words, placed_words, FreedFits, PlacedFits}
-use Rattle.script_text.proofs.OneLine.{IsWord, AreWords, words_no_space, decimal_word, escaped_word, path_word}
+use Rattle.script_text.proofs.OneLine.{IsWord, AreWords, is_letter, letters_above, letters_word, words_no_space, decimal_word, escaped_word, path_word}
+use Rattle.script_text.proofs.ReadBack.{same, wide, word_at, number_at, number_back, bytes_at, bytes_back}
+use Rattle.script_text.proofs.Stamped.{stamp_word, stamp_at, stamp_back, found_word, found_at, found_back}
 
-wide : (n : ℕ) → n < 2 ^ 32 → n < 2 ^ 64
-wide n low = omega arith
-
--- what stands after an outcome's word: decimals, or the bytes that were read
-data Fields : Type 0 where
-  Numbers : (numbers : List ℕ) → Fields
-  Content : (bytes : List ℕ) → Fields
-
-abbrev fields_words : Fields → List (List ℕ)
-fields_words (Numbers numbers) = map decimal numbers
-fields_words (Content bytes) = escaped bytes ∷ []
-
-abbrev is_content : Fields → Bool
-is_content (Numbers numbers) = false
-is_content (Content bytes) = true
-
-abbrev AreLow : List ℕ → Type 0
-AreLow [] = Unit {0}
-AreLow (number ∷ numbers) = (number < 2 ^ 64) × AreLow numbers
-
-abbrev FieldsFit : Fields → Type 0
-FieldsFit (Numbers numbers) = AreLow numbers
-FieldsFit (Content bytes) = Unit {0}
-
-abbrev same : List ℕ → List ℕ → Bool
-same word other = pointwise eqb word other
-
--- the outcome of a word and its fields
-abbrev outcome_from : List ℕ → Fields → Outcome
-outcome_from word (Content bytes) = Replied (Bytes bytes)
-outcome_from word (Numbers ns) =
+-- the outcome of a word and the words after it
+abbrev outcome_from : List ℕ → List (List ℕ) → Outcome
+outcome_from word others =
     cond (same word (codes "done")) (Replied Done)
-    (cond (same word (codes "number")) (Replied (Number (get_or ns 0 0)))
-    (cond (same word (codes "toolong")) (Replied (TooLong (get_or ns 0 0)))
+    (cond (same word (codes "number")) (Replied (Number (number_at others 0)))
+    (cond (same word (codes "bytes")) (Replied (Bytes (bytes_at others 0)))
+    (cond (same word (codes "toolong")) (Replied (TooLong (number_at others 0)))
     (cond (same word (codes "absent")) (Replied Absent)
     (cond (same word (codes "wrongkind")) (Replied WrongKind)
     (cond (same word (codes "exists")) (Replied Exists)
-    (cond (same word (codes "full")) (Replied (Full (get_or ns 0 0)))
-    (cond (same word (codes "exhausted")) (Replied (Exhausted (get_or ns 0 0) (get_or ns 1 0) (get_or ns 2 0)))
-    (cond (same word (codes "absentuser")) (Replied (AbsentUser (get_or ns 0 0)))
+    (cond (same word (codes "full")) (Replied (Full (number_at others 0)))
+    (cond (same word (codes "exhausted")) (Replied (Exhausted (number_at others 0) (number_at others 1) (number_at others 2)))
+    (cond (same word (codes "storefault")) (Replied StoreFault)
+    (cond (same word (codes "damaged")) (Replied (Damaged (stamp_at (word_at others 0)) (found_at (word_at others 1))))
+    (cond (same word (codes "absentuser")) (Replied (AbsentUser (number_at others 0)))
     (cond (same word (codes "nomemory")) (Replied NoMemory)
-    (cond (same word (codes "slice")) (Slice (get_or ns 0 0) (get_or ns 1 0))
-    (cond (same word (codes "granted")) (Granted (get_or ns 0 0) (get_or ns 1 0))
-    (cond (same word (codes "handempty")) HandEmpty PoolEmpty))))))))))))
-
-abbrev is_letter : ℕ → Bool
-is_letter byte = nat_le 97 byte && nat_le byte 122
+    (cond (same word (codes "slice")) (Slice (number_at others 0) (number_at others 1))
+    (cond (same word (codes "granted")) (Granted (number_at others 0) (number_at others 1))
+    (cond (same word (codes "handempty")) HandEmpty PoolEmpty)))))))))))))))
 
 abbrev is_name : List ℕ → Bool
 is_name [] = false
 is_name (byte ∷ bytes) = list_all is_letter (byte ∷ bytes)
 
--- an outcome's word and fields, from which the outcome can be told
+-- an outcome's word and the words after it, from which the outcome can be told
 record Named (outcome : Outcome) : Type 0 where
   word : List ℕ
-  fields : Fields
-  words_are : outcome_words outcome ≡ word ∷ fields_words fields
+  others : List (List ℕ)
+  words_are : outcome_words outcome ≡ word ∷ others
   name : is_name word ≡ true
-  content : is_content fields ≡ same word (codes "bytes")
-  back : outcome_from word fields ≡ outcome
-  fits : OutcomeFits outcome → FieldsFit fields
+  are : OutcomeFits outcome → AreWords others
+  back : OutcomeFits outcome → outcome_from word others ≡ outcome
+
+-- an outcome of one word
+alone : (outcome : Outcome) (word : List ℕ) → outcome_words outcome ≡ word ∷ [] → is_name word ≡ true → outcome_from word [] ≡ outcome → Named outcome
+alone outcome word words_are name back = record { word = word; others = []; words_are = words_are; name = name; are = λ f. tt; back = λ f. back }
 
 named : (outcome : Outcome) → Named outcome
-named (Replied Done) = record { word = codes "done"; fields = Numbers []; words_are = refl; name = refl; content = refl; back = refl; fits = λ f. tt }
-named (Replied (Number n)) = record { word = codes "number"; fields = Numbers (n ∷ []); words_are = refl; name = refl; content = refl; back = refl; fits = λ f. (f, tt) }
-named (Replied (Bytes bytes)) = record { word = codes "bytes"; fields = Content bytes; words_are = refl; name = refl; content = refl; back = refl; fits = λ f. tt }
-named (Replied (TooLong limit)) = record { word = codes "toolong"; fields = Numbers (limit ∷ []); words_are = refl; name = refl; content = refl; back = refl; fits = λ f. (f, tt) }
-named (Replied Absent) = record { word = codes "absent"; fields = Numbers []; words_are = refl; name = refl; content = refl; back = refl; fits = λ f. tt }
-named (Replied WrongKind) = record { word = codes "wrongkind"; fields = Numbers []; words_are = refl; name = refl; content = refl; back = refl; fits = λ f. tt }
-named (Replied Exists) = record { word = codes "exists"; fields = Numbers []; words_are = refl; name = refl; content = refl; back = refl; fits = λ f. tt }
-named (Replied (Full limit)) = record { word = codes "full"; fields = Numbers (limit ∷ []); words_are = refl; name = refl; content = refl; back = refl; fits = λ f. (f, tt) }
-named (Replied (Exhausted need used granted)) =
-    record { word = codes "exhausted"; fields = Numbers (need ∷ used ∷ granted ∷ []); words_are = refl; name = refl; content = refl; back = refl; fits = λ f. (f.0, (f.1, (f.2, tt))) }
-named (Replied (AbsentUser users)) = record { word = codes "absentuser"; fields = Numbers (users ∷ []); words_are = refl; name = refl; content = refl; back = refl; fits = λ f. (wide users f, tt) }
-named (Replied NoMemory) = record { word = codes "nomemory"; fields = Numbers []; words_are = refl; name = refl; content = refl; back = refl; fits = λ f. tt }
-named (Slice slice number) = record { word = codes "slice"; fields = Numbers (slice ∷ number ∷ []); words_are = refl; name = refl; content = refl; back = refl; fits = λ f. (wide slice f.0, (f.1, tt)) }
-named (Granted slice number) = record { word = codes "granted"; fields = Numbers (slice ∷ number ∷ []); words_are = refl; name = refl; content = refl; back = refl; fits = λ f. (wide slice f.0, (f.1, tt)) }
-named HandEmpty = record { word = codes "handempty"; fields = Numbers []; words_are = refl; name = refl; content = refl; back = refl; fits = λ f. tt }
-named PoolEmpty = record { word = codes "poolempty"; fields = Numbers []; words_are = refl; name = refl; content = refl; back = refl; fits = λ f. tt }
-
-numbers_injective : (xs ys : List ℕ) → AreLow xs → AreLow ys → map decimal xs ≡ map decimal ys → xs ≡ ys
-numbers_injective [] [] low also same = refl
-numbers_injective [] (y ∷ ys) low also same = cc
-numbers_injective (x ∷ xs) [] low also same = cc
-numbers_injective (x ∷ xs) (y ∷ ys) low also same =
-    let first : x ≡ y = decimal_injective x y low.0 also.0 cc in
-    let others : xs ≡ ys = numbers_injective xs ys low.1 also.1 cc in
-    λ i. first i ∷ others i
-
-fields_injective : (a b : Fields) → FieldsFit a → FieldsFit b → is_content a ≡ is_content b → fields_words a ≡ fields_words b → a ≡ b
-fields_injective (Numbers xs) (Numbers ys) low also kind same = ap Numbers (numbers_injective xs ys low also same)
-fields_injective (Content xs) (Content ys) low also kind same = ap Content (escaped_injective xs ys cc)
-fields_injective (Numbers xs) (Content ys) low also kind same = cc
-fields_injective (Content xs) (Numbers ys) low also kind same = cc
-
-numbers_words : (numbers : List ℕ) → AreLow numbers → AreWords (map decimal numbers)
-numbers_words [] low = tt
-numbers_words (number ∷ numbers) low = (decimal_word number low.0, numbers_words numbers low.1)
-
-fields_are_words : (fields : Fields) → FieldsFit fields → AreWords (fields_words fields)
-fields_are_words (Numbers numbers) low = numbers_words numbers low
-fields_are_words (Content bytes) low = (escaped_word bytes, tt)
-
-letters_word : (bytes : List ℕ) → list_all is_letter bytes ≡ true → IsWord bytes
-letters_word [] letters = tt
-letters_word (byte ∷ bytes) letters =
-    let parts = and_parts (is_letter byte) (list_all is_letter bytes) letters in
-    let low = leb-true 97 byte (and_parts (leb 97 byte) (leb byte 122) parts.0).0 in
-    (λ e. absurd (omega arith), λ e. absurd (omega arith), letters_word bytes parts.1)
+named (Replied Done) = alone (Replied Done) (codes "done") refl refl refl
+named (Replied (Number n)) =
+    record { word = codes "number"; others = decimal n ∷ []; words_are = refl; name = refl; are = λ f. (decimal_word n f, tt); back = λ f. ap (λ m. Replied (Number m)) (number_back n f) }
+named (Replied (Bytes bytes)) =
+    record { word = codes "bytes"; others = escaped bytes ∷ []; words_are = refl; name = refl; are = λ f. (escaped_word bytes, tt); back = λ f. ap (λ b. Replied (Bytes b)) (bytes_back bytes) }
+named (Replied (TooLong limit)) =
+    record { word = codes "toolong"; others = decimal limit ∷ []; words_are = refl; name = refl; are = λ f. (decimal_word limit f, tt); back = λ f. ap (λ m. Replied (TooLong m)) (number_back limit f) }
+named (Replied Absent) = alone (Replied Absent) (codes "absent") refl refl refl
+named (Replied WrongKind) = alone (Replied WrongKind) (codes "wrongkind") refl refl refl
+named (Replied Exists) = alone (Replied Exists) (codes "exists") refl refl refl
+named (Replied (Full limit)) =
+    record { word = codes "full"; others = decimal limit ∷ []; words_are = refl; name = refl; are = λ f. (decimal_word limit f, tt); back = λ f. ap (λ m. Replied (Full m)) (number_back limit f) }
+named (Replied (Exhausted need used granted)) = record {
+  word = codes "exhausted";
+  others = decimal need ∷ decimal used ∷ decimal granted ∷ [];
+  words_are = refl;
+  name = refl;
+  are = λ f. (decimal_word need f.0, (decimal_word used f.1, (decimal_word granted f.2, tt)));
+  back = λ f. λ i. Replied (Exhausted (number_back need f.0 i) (number_back used f.1 i) (number_back granted f.2 i));
+}
+named (Replied StoreFault) = alone (Replied StoreFault) (codes "storefault") refl refl refl
+named (Replied (Damaged kept found)) = record {
+  word = codes "damaged";
+  others = stamp_text kept ∷ found_text found ∷ [];
+  words_are = refl;
+  name = refl;
+  are = λ f. (stamp_word kept f.0, (found_word found f.1, tt));
+  back = λ f. λ i. Replied (Damaged (stamp_back kept f.0 i) (found_back found f.1 i));
+}
+named (Replied (AbsentUser users)) = record {
+  word = codes "absentuser";
+  others = decimal users ∷ [];
+  words_are = refl;
+  name = refl;
+  are = λ f. (decimal_word users (wide users f), tt);
+  back = λ f. ap (λ m. Replied (AbsentUser m)) (number_back users (wide users f));
+}
+named (Replied NoMemory) = alone (Replied NoMemory) (codes "nomemory") refl refl refl
+named (Slice slice number) = record {
+  word = codes "slice";
+  others = decimal slice ∷ decimal number ∷ [];
+  words_are = refl;
+  name = refl;
+  are = λ f. (decimal_word slice (wide slice f.0), (decimal_word number f.1, tt));
+  back = λ f. λ i. Slice (number_back slice (wide slice f.0) i) (number_back number f.1 i);
+}
+named (Granted slice number) = record {
+  word = codes "granted";
+  others = decimal slice ∷ decimal number ∷ [];
+  words_are = refl;
+  name = refl;
+  are = λ f. (decimal_word slice (wide slice f.0), (decimal_word number f.1, tt));
+  back = λ f. λ i. Granted (number_back slice (wide slice f.0) i) (number_back number f.1 i);
+}
+named HandEmpty = alone HandEmpty (codes "handempty") refl refl refl
+named PoolEmpty = alone PoolEmpty (codes "poolempty") refl refl refl
 
 name_word : (word : List ℕ) → is_name word ≡ true → IsWord word
 name_word [] name = absurd (false≢true name)
@@ -137,8 +123,8 @@ name_word (byte ∷ bytes) name = letters_word (byte ∷ bytes) name
 name_first : (word rest : List ℕ) → is_name word ≡ true → HasNoMark (word ++ rest)
 name_first [] rest name = absurd (false≢true name)
 name_first (byte ∷ bytes) rest name =
-    let parts = and_parts (is_letter byte) (list_all is_letter bytes) name in
-    let low = leb-true 97 byte (and_parts (leb 97 byte) (leb byte 122) parts.0).0 in
+    let above = letters_above byte bytes name in
+    let low : 97 ≤ byte = above.0 in
     λ i. ne_eqb byte 45 (λ e. absurd (omega arith)) i || ne_eqb byte 43 (λ e. absurd (omega arith)) i
 
 joined_more : (word : List ℕ) (words : List (List ℕ)) → (rest : List ℕ) × (joined (word ∷ words) ≡ word ++ rest)
@@ -149,12 +135,12 @@ joined_more word (next ∷ words) = (32 ∷ joined (next ∷ words), refl)
 pub outcome_are_words : (outcome : Outcome) → OutcomeFits outcome → AreWords (outcome_words outcome)
 outcome_are_words outcome fits =
     let n = named outcome in
-    subst AreWords (sym n.words_are) (name_word n.word n.name, fields_are_words n.fields (n.fits fits))
+    subst AreWords (sym n.words_are) (name_word n.word n.name, n.are fits)
 
 pub outcome_first : (outcome : Outcome) (rest : List ℕ) → HasNoMark (joined (outcome_words outcome) ++ rest)
 outcome_first outcome rest =
     let n = named outcome in
-    let more = joined_more n.word (fields_words n.fields) in
+    let more = joined_more n.word n.others in
     subst HasNoMark (sym (ap (λ t. t ++ rest) (ap joined n.words_are ∙ more.1) ∙ append_assoc n.word more.0 rest)) (name_first n.word (more.0 ++ rest) n.name)
 
 words_injective : (word next : List ℕ) (words others : List (List ℕ)) → AreWords (word ∷ words) → AreWords (next ∷ others) → joined (word ∷ words) ≡ joined (next ∷ others) → word ∷ words ≡ next ∷ others
@@ -167,13 +153,12 @@ pub outcome_joined : (a b : Outcome) → OutcomeFits a → OutcomeFits b → joi
 outcome_joined a b fits also lines =
     let m = named a in
     let n = named b in
-    let words : m.word ∷ fields_words m.fields ≡ n.word ∷ fields_words n.fields =
-    words_injective m.word n.word (fields_words m.fields) (fields_words n.fields) (subst AreWords m.words_are (outcome_are_words a fits)) (subst AreWords n.words_are (outcome_are_words b also))
+    let words : m.word ∷ m.others ≡ n.word ∷ n.others =
+    words_injective m.word n.word m.others n.others (subst AreWords m.words_are (outcome_are_words a fits)) (subst AreWords n.words_are (outcome_are_words b also))
     (sym (ap joined m.words_are) ∙ lines ∙ ap joined n.words_are) in
     let word : m.word ≡ n.word = cc in
-    let rest : fields_words m.fields ≡ fields_words n.fields = cc in
-    let fields = fields_injective m.fields n.fields (m.fits fits) (n.fits also) (m.content ∙ ap (λ w. same w (codes "bytes")) word ∙ sym n.content) rest in
-    sym m.back ∙ (λ i. outcome_from (word i) (fields i)) ∙ n.back
+    let others : m.others ≡ n.others = cc in
+    sym (m.back fits) ∙ (λ i. outcome_from (word i) (others i)) ∙ n.back also
 
 dash : IsWord (codes "-")
 dash = (λ e. absurd (omega arith), λ e. absurd (omega arith), tt)

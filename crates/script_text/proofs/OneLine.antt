@@ -1,5 +1,5 @@
 -- Words have neither spaces nor line ends.
-use Rattle.std.proofs.Common.{◌≡◌, ◌≢◌, ℕ, ◌+◌, ◌/◌, ◌%◌, ◌^◌, ◌<◌, ◌&&◌, true, not, eqb, leb, ltb, nat_le, List, [], ◌∷◌, ◌++◌, length, subst, arith}
+use Rattle.std.proofs.Common.{◌≡◌, ◌≢◌, ℕ, ◌+◌, ◌/◌, ◌%◌, ◌^◌, ◌<◌, ◌≤◌, ◌&&◌, Bool, true, not, eqb, leb, ltb, nat_le, List, [], ◌∷◌, ◌++◌, length, subst, arith}
 use Rattle.std.specs.Prelude.{IsTrue}
 use Rattle.std.specs.Fmt.{decimal}
 use Rattle.std.specs.List.{flat_map, list_all, join_with_byte}
@@ -45,7 +45,7 @@ joined_no_end (word ∷ []) are = word_no_end word are.0
 joined_no_end (word ∷ next ∷ words) are =
     HasNoEnd-append word (32 ∷ join_with_byte 32 (next ∷ words)) (word_no_end word are.0) (λ e. absurd (omega arith), joined_no_end (next ∷ words) are.1)
 
-IsWord-append : (xs ys : List ℕ) → IsWord xs → IsWord ys → IsWord (xs ++ ys)
+pub IsWord-append : (xs ys : List ℕ) → IsWord xs → IsWord ys → IsWord (xs ++ ys)
 IsWord-append [] ys word also = also
 IsWord-append (x ∷ xs) ys word also = (word.0, word.1, IsWord-append xs ys word.2 also)
 
@@ -78,6 +78,21 @@ pub escaped_word : (bytes : List ℕ) → IsWord (escaped bytes)
 unfolding escaped
 escaped_word [] = (λ e. absurd (omega arith), λ e. absurd (omega arith), tt)
 escaped_word (byte ∷ bytes) = flat_word (byte ∷ bytes)
+
+abbrev pub is_letter : ℕ → Bool
+is_letter byte = nat_le 97 byte && nat_le byte 122
+
+pub letters_above : (byte : ℕ) (bytes : List ℕ) → list_all is_letter (byte ∷ bytes) ≡ true → (97 ≤ byte) × (list_all is_letter bytes ≡ true)
+letters_above byte bytes letters =
+    let parts = and_parts (is_letter byte) (list_all is_letter bytes) letters in
+    (leb-true 97 byte (and_parts (leb 97 byte) (leb byte 122) parts.0).0, parts.1)
+
+pub letters_word : (bytes : List ℕ) → list_all is_letter bytes ≡ true → IsWord bytes
+letters_word [] letters = tt
+letters_word (byte ∷ bytes) letters =
+    let above = letters_above byte bytes letters in
+    let low : 97 ≤ byte = above.0 in
+    (λ space. absurd (omega arith), λ end. absurd (omega arith), letters_word bytes above.1)
 
 name_word : (text : List ℕ) → list_all is_name_byte text ≡ true → IsWord text
 name_word [] names = tt

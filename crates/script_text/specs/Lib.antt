@@ -6,6 +6,8 @@ pub mod Verbs
 pub mod Lines
 -- the words of a request's line, apart from its user
 pub mod Fields
+-- how a parked block's stamp is told, and what was found in its place
+pub mod Damages
 -- the line of an outcome
 pub mod Outcomes
 -- the lines of moves

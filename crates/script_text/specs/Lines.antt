@@ -9,7 +9,7 @@ use Rattle.far_words.specs.Paths.{is_path}
 use Rattle.far_words.specs.declared.request.Kind.{Kind}
 use Rattle.far_words.specs.declared.request.Kind.TheVariants.{File}
 use Rattle.far_words.specs.declared.request.Request.{Request}
-use Rattle.far_words.specs.declared.request.Request.TheVariants.{Make, Append, Read, Length}
+use Rattle.far_words.specs.declared.request.Request.TheVariants.{Make, Append, Read, Length, Park, Load}
 use Rattle.script_text.specs.declared.line.ScriptLine.{ScriptLine}
 use Rattle.script_text.specs.declared.line.ScriptLine.TheVariants.{Ask, Draw, Grant}
 use Rattle.script_text.specs.Words.{joined}
@@ -23,6 +23,8 @@ request_word (Make path kind span) = codes "make"
 request_word (Append path bytes) = codes "append"
 request_word (Read path from len) = codes "read"
 request_word (Length path) = codes "length"
+request_word (Park path) = codes "park"
+request_word (Load path) = codes "load"
 
 -- its further words, after that of the user
 abbrev pub field_words : Request → List (List ℕ)
@@ -30,6 +32,8 @@ field_words (Make path kind span) = path ∷ kind_word kind ∷ decimal span ∷
 field_words (Append path bytes) = path ∷ escaped bytes ∷ []
 field_words (Read path from len) = path ∷ decimal from ∷ decimal len ∷ []
 field_words (Length path) = path ∷ []
+field_words (Park path) = path ∷ []
+field_words (Load path) = path ∷ []
 
 abbrev pub line_words : ScriptLine → List (List ℕ)
 line_words (Ask user request) = request_word request ∷ decimal user ∷ field_words request
@@ -45,6 +49,8 @@ IsRequest (Make path kind span) = IsTrue (is_path path) × (span < 2 ^ 64)
 IsRequest (Append path bytes) = IsTrue (is_path path) × AreBytes bytes
 IsRequest (Read path from len) = IsTrue (is_path path) × (from < 2 ^ 64) × (len < 2 ^ 32)
 IsRequest (Length path) = IsTrue (is_path path)
+IsRequest (Park path) = IsTrue (is_path path)
+IsRequest (Load path) = IsTrue (is_path path)
 
 abbrev pub IsScriptLine : ScriptLine → Type 0
 IsScriptLine (Ask user request) = (user < 2 ^ 32) × IsRequest request

@@ -3,10 +3,11 @@ use Rattle.std.specs.Prelude.{◌≡◌, ℕ, ◌^◌, ◌<◌, ◌==◌, ◌||�
 use Rattle.std.specs.Fmt.{decimal}
 use Rattle.far_io.specs.Escapes.{escaped}
 use Rattle.far_words.specs.declared.request.Reply.{Reply}
-use Rattle.far_words.specs.declared.request.Reply.TheVariants.{Done, Number, Bytes, TooLong, Absent, WrongKind, Exists, Full, Exhausted, AbsentUser, NoMemory}
+use Rattle.far_words.specs.declared.request.Reply.TheVariants.{Done, Number, Bytes, TooLong, Absent, WrongKind, Exists, Full, Exhausted, StoreFault, Damaged, AbsentUser, NoMemory}
 use Rattle.far_words.specs.declared.request.Outcome.{Outcome}
 use Rattle.far_words.specs.declared.request.Outcome.TheVariants.{Reply as Replied, Slice, Granted, HandEmpty, PoolEmpty}
 use Rattle.script_text.specs.Words.{ended, HasNoEnd}
+use Rattle.script_text.specs.Damages.{damage_words, StampFits, FoundFits}
 
 abbrev pub reply_words : Reply → List (List ℕ)
 reply_words Done = codes "done" ∷ []
@@ -18,6 +19,8 @@ reply_words WrongKind = codes "wrongkind" ∷ []
 reply_words Exists = codes "exists" ∷ []
 reply_words (Full limit) = codes "full" ∷ decimal limit ∷ []
 reply_words (Exhausted need used granted) = codes "exhausted" ∷ decimal need ∷ decimal used ∷ decimal granted ∷ []
+reply_words StoreFault = codes "storefault" ∷ []
+reply_words (Damaged kept found) = damage_words kept found
 reply_words (AbsentUser users) = codes "absentuser" ∷ decimal users ∷ []
 reply_words NoMemory = codes "nomemory" ∷ []
 
@@ -37,6 +40,7 @@ ReplyFits (Number number) = number < 2 ^ 64
 ReplyFits (TooLong limit) = limit < 2 ^ 64
 ReplyFits (Full limit) = limit < 2 ^ 64
 ReplyFits (Exhausted need used granted) = (need < 2 ^ 64) × (used < 2 ^ 64) × (granted < 2 ^ 64)
+ReplyFits (Damaged kept found) = StampFits kept × FoundFits found
 ReplyFits (AbsentUser users) = users < 2 ^ 32
 ReplyFits reply = Unit {0}
 

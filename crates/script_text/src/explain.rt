@@ -29,7 +29,7 @@ fn fields_after(first: &[u8]) -> Option<&'static [Field]> {
         b"make" => Some(&[USER, Field::Path, Field::Kind, NUMBER]),
         b"append" => Some(&[USER, Field::Path, Field::Escape]),
         b"read" => Some(&[USER, Field::Path, NUMBER, USER]),
-        b"length" => Some(&[USER, Field::Path]),
+        b"length" | b"park" | b"load" => Some(&[USER, Field::Path]),
         _ => None,
     }
 }

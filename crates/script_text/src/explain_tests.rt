@@ -5,7 +5,7 @@ use std::test::Fail;
 
 #[test]
 fn faults_of_lines(rt: HostRuntime) -> Result<(), Fail> {
-    let cases: [(&[u8], &str); 17] = [
+    let cases: [(&[u8], &str); 20] = [
         (b"", "no line begins with its first word"),
         (b"Draw", "no line begins with its first word"),
         (b"quantum", "no line begins with its first word"),
@@ -24,6 +24,9 @@ fn faults_of_lines(rt: HostRuntime) -> Result<(), Fail> {
         ),
         (b"read 0 f 0 4294967296", "word 5 is above 4294967295"),
         (b"length 0 ", "word 3 is no path"),
+        (b"park 0", "words wanted: 3, found: 2"),
+        (b"load x f", "word 2 is no decimal"),
+        (b"load 0 a//b", "word 3 is no path"),
         (b"append 0 f ", "word 4 is no escaped text"),
         (b"append 0 f %4", "word 4 is no escaped text"),
     ];

@@ -25,6 +25,19 @@ pub fn next_path(words: Option<&[u8]>) -> Option<(Path, Option<&[u8]>)>
     }
 }
 
+/// The path that the one word which is left is.
+pub fn last_path(words: Option<&[u8]>) -> Option<Path>
+    ensures path { IfSome result (λ path. words_after (option_copied words.entry) ≡ path ∷ []) }
+    ensures grammar { IfSome result (λ path. IsTrue (Paths.is_path path)) }
+    ensures nothing { IfNone result ((path : List ℕ) → IsTrue (Paths.is_path path) → words_after (option_copied words.entry) ≢ path ∷ []) }
+{
+    let (path, others) = next_path(words)?;
+    if others.is_some() {
+        return None;
+    }
+    Some(path)
+}
+
 /// The kind whose word is the first of these, and the words after it.
 pub fn next_kind(words: Option<&[u8]>) -> Option<(Kind, Option<&[u8]>)>
     ensures kind { IfSome result (λ found. words_after (option_copied words.entry) ≡ kind_word found.0 ∷ words_after (option_copied found.1)) }

@@ -1,6 +1,7 @@
 //! The text of a script's lines, of outcomes and of moves. `docs/FORMATS.md` has the grammar.
 #![tactic(auto)]
 
+mod damages;
 mod explain;
 #[cfg(test)]
 mod explain_tests;

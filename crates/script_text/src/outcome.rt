@@ -7,11 +7,13 @@ ghost use Rattle.far_io.specs.Escapes.{escaped};
 ghost use Rattle.far_io.specs.Sends.{Sends};
 ghost use Rattle.script_text.specs.declared.rows.TheConstants.{NUMBER_ROOM};
 ghost use Rattle.script_text.specs.Words.{ended};
+ghost use Rattle.script_text.specs.Damages.{damage_words};
 ghost use Rattle.script_text.specs.Outcomes.{reply_words, outcome_text, OutcomeFits, IsOutcomeLine};
 
+use crate::damages::{DAMAGE_ROOM, push_damage};
 use crate::rows::{NUMBER_ROOM, push_line};
 use far_io::{Piece, Sink, WriteFault, flush, make_room, push_escaped};
-use far_words::{Outcome, Reply};
+use far_words::{Found, Outcome, Reply, Stamp};
 
 /// Puts a line of a word and numbers.
 fn put_line<O: Sink>(
@@ -45,6 +47,23 @@ fn put_bytes<O: Sink>(bytes: &[u8], sink: &mut O, piece: &mut Piece) -> Result<(
     Ok(())
 }
 
+/// Puts the line of a block that isn't as it was parked.
+fn put_damage<O: Sink>(
+    kept: &Stamp,
+    found: &Found,
+    sink: &mut O,
+    piece: &mut Piece,
+) -> Result<(), WriteFault>
+    ensures sends { OnOk result (Sends O.took sink.old sink.new piece.old piece.new
+        (ended (damage_words kept.now found.now))) }
+    ensures prefix { OnErr result (AddsPrefix O.took sink.old sink.new (piece.old ++ ended (damage_words kept.now found.now))) }
+    ensures cause { HasCause (O.faults sink.old) (O.faults sink.new) result }
+{
+    make_room(sink, piece, DAMAGE_ROOM)?;
+    push_damage(piece, kept, found);
+    Ok(())
+}
+
 /// Puts the line of a reply.
 fn put_reply<O: Sink>(reply: &Reply, sink: &mut O, piece: &mut Piece) -> Result<(), WriteFault>
     ensures sends { OnOk result (Sends O.took sink.old sink.new piece.old piece.new (ended (reply_words reply.now))) }
@@ -65,6 +84,8 @@ fn put_reply<O: Sink>(reply: &Reply, sink: &mut O, piece: &mut Piece) -> Result<
             used,
             granted,
         } => put_line(b"exhausted", &[*need, *used, *granted], sink, piece),
+        Reply::StoreFault => put_line(b"storefault", &[], sink, piece),
+        Reply::Damaged { kept, found } => put_damage(kept, found, sink, piece),
         Reply::AbsentUser { users } => put_line(b"absentuser", &[*users as u64], sink, piece),
         Reply::NoMemory => put_line(b"nomemory", &[], sink, piece),
     }

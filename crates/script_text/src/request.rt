@@ -5,7 +5,7 @@ ghost use Rattle.std.specs.Option.{option_copied};
 ghost use Rattle.far_io.specs.Words.{words_after};
 ghost use Rattle.script_text.specs.Fields.{IsAsked, IsNotAsked};
 
-use crate::fields::{last_bytes, last_number, next_kind, next_path};
+use crate::fields::{last_bytes, last_number, last_path, next_kind, next_path};
 use crate::verb::Verb;
 use far_io::next_number;
 use far_words::Request;
@@ -56,11 +56,26 @@ fn parse_length(fields: Option<&[u8]>) -> Option<Request>
     ensures some { IfSome result (λ request. IsAsked (codes "length") (words_after (option_copied fields.entry)) request) }
     ensures none { IfNone result (IsNotAsked (codes "length") (words_after (option_copied fields.entry))) }
 {
-    let (path, fields) = next_path(fields)?;
-    if fields.is_some() {
-        return None;
-    }
+    let path = last_path(fields)?;
     Some(Request::Length { path })
+}
+
+/// `PATH`
+fn parse_park(fields: Option<&[u8]>) -> Option<Request>
+    ensures some { IfSome result (λ request. IsAsked (codes "park") (words_after (option_copied fields.entry)) request) }
+    ensures none { IfNone result (IsNotAsked (codes "park") (words_after (option_copied fields.entry))) }
+{
+    let path = last_path(fields)?;
+    Some(Request::Park { path })
+}
+
+/// `PATH`
+fn parse_load(fields: Option<&[u8]>) -> Option<Request>
+    ensures some { IfSome result (λ request. IsAsked (codes "load") (words_after (option_copied fields.entry)) request) }
+    ensures none { IfNone result (IsNotAsked (codes "load") (words_after (option_copied fields.entry))) }
+{
+    let path = last_path(fields)?;
+    Some(Request::Load { path })
 }
 
 /// The request whose line begins with this word, and has these words after that of the user.
@@ -77,6 +92,8 @@ pub fn parse_request(
         Some(Verb::Append) => parse_append(alloc, fields),
         Some(Verb::Read) => Ok(parse_read(fields)),
         Some(Verb::Length) => Ok(parse_length(fields)),
+        Some(Verb::Park) => Ok(parse_park(fields)),
+        Some(Verb::Load) => Ok(parse_load(fields)),
         None => Ok(None),
     }
 }

@@ -3,7 +3,9 @@ ghost use Rattle.std.specs.Prelude.{◌≡◌, IfOk};
 
 use crate::{ScriptLine, parse_line, write_moves, write_outcome};
 use far_io::{MemSink, WriteFault};
-use far_words::{Blob, Kind, Moves, Outcome, Path, PlacedRow, Reply, Request};
+use far_words::{
+    Blob, Found, ImageFault, Kind, Moves, Outcome, Path, PlacedRow, Reply, Request, Stamp,
+};
 use std::test::Fail;
 
 fn path(text: &[u8]) -> Result<Path, Fail> {
@@ -44,6 +46,18 @@ fn lines_within_the_grammar(rt: HostRuntime) -> Result<(), Fail> {
         line(&rt, b"length 0 f")?,
         ScriptLine::Ask { user: 0, request }
     );
+    let request = Request::Park { path: path(b"f")? };
+    assert_eq!(rt;
+        line(&rt, b"park 0 f")?,
+        ScriptLine::Ask { user: 0, request }
+    );
+    let request = Request::Load {
+        path: path(b"job/in")?,
+    };
+    assert_eq!(rt;
+        line(&rt, b"load 3 job/in")?,
+        ScriptLine::Ask { user: 3, request }
+    );
     Ok(())
 }
 
@@ -66,7 +80,7 @@ fn appended_bytes_are_escaped(rt: HostRuntime) -> Result<(), Fail> {
 
 #[test]
 fn lines_outside_the_grammar(rt: HostRuntime) -> Result<(), Fail> {
-    let table: [&[u8]; 36] = [
+    let table: [&[u8]; 40] = [
         b"",
         b" ",
         b" draw",
@@ -101,7 +115,11 @@ fn lines_outside_the_grammar(rt: HostRuntime) -> Result<(), Fail> {
         b"length 0",
         b"length 0 f ",
         b"length 0 f\n",
-        b"park 0 f",
+        b"park 0",
+        b"park 0 f 1",
+        b"park f",
+        b"load 0 f ",
+        b"Load 0 f",
         b"now 5",
     ];
     for text in table {
@@ -159,10 +177,76 @@ fn outcome_lines(rt: HostRuntime) -> Result<(), Fail> {
             },
             b"granted 2 1\n".as_slice()
         ),
+        (
+            Outcome::Reply(Reply::StoreFault),
+            b"storefault\n".as_slice()
+        ),
         (Outcome::PoolEmpty, b"poolempty\n".as_slice()),
     ]?;
     for (outcome, text) in table {
         assert_eq!(rt; written(&rt, outcome)?.bytes(), text);
+    }
+    Ok(())
+}
+
+/// The SHA-256 of `a`.
+const DIGEST: [u8; 32] = [
+    0xca, 0x97, 0x81, 0x12, 0xca, 0x1b, 0xbd, 0xca, 0xfa, 0xc2, 0x31, 0xb3, 0x9a, 0x23, 0xdc, 0x4d,
+    0xa7, 0x86, 0xef, 0xf8, 0x14, 0x7c, 0x4e, 0x72, 0xb9, 0x80, 0x77, 0x85, 0xaf, 0xee, 0x48, 0xbb,
+];
+
+/// The SHA-256 of `b`.
+const OTHER: [u8; 32] = [
+    0x3e, 0x23, 0xe8, 0x16, 0x00, 0x39, 0x59, 0x4a, 0x33, 0x89, 0x4f, 0x65, 0x64, 0xe1, 0xb1, 0x34,
+    0x8b, 0xbd, 0x7a, 0x00, 0x88, 0xd4, 0x2c, 0x4a, 0xcb, 0x73, 0xee, 0xae, 0xd5, 0x9c, 0x00, 0x9d,
+];
+
+fn broken(fault: ImageFault) -> Found {
+    Found::Broken { fault }
+}
+
+#[test]
+fn damaged_blocks(rt: HostRuntime) -> Result<(), Fail> {
+    let kept = Stamp {
+        user: 0,
+        block: 0,
+        length: 1,
+        digest: DIGEST,
+    };
+    let stamp = Stamp {
+        user: u32::MAX,
+        block: u64::MAX,
+        length: 65536,
+        digest: OTHER,
+    };
+    let cases: [(Found, &str); 9] = [
+        (Found::Absent, "absent"),
+        (broken(ImageFault::Short { have: 52 }), "broken:short:52"),
+        (broken(ImageFault::Magic), "broken:magic"),
+        (broken(ImageFault::Version { found: 2 }), "broken:version:2"),
+        (
+            broken(ImageFault::Length { said: 1, have: 0 }),
+            "broken:length:1:0",
+        ),
+        (
+            broken(ImageFault::Digest {
+                kept: DIGEST,
+                found: OTHER,
+            }),
+            "broken:digest:ca978112ca1bbdcafac231b39a23dc4da786eff8147c4e72b9807785afee48bb:3e23e8160039594a33894f6564e1b1348bbd7a0088d42c4acb73eeaed59c009d",
+        ),
+        (Found::Longer { len: 118 }, "longer:118"),
+        (
+            Found::Other { stamp },
+            "other:4294967295:18446744073709551615:65536:3e23e8160039594a33894f6564e1b1348bbd7a0088d42c4acb73eeaed59c009d",
+        ),
+        (Found::Unfit { place: 7 }, "unfit:7"),
+    ];
+    let told = "damaged 0:0:1:ca978112ca1bbdcafac231b39a23dc4da786eff8147c4e72b9807785afee48bb";
+    for (found, words) in cases {
+        let sink = written(&rt, Outcome::Reply(Reply::Damaged { kept, found }))?;
+        let line = format!(in rt.alloc(); "{told} {words}\n")?;
+        assert_eq!(rt; sink.bytes(), line.as_bytes());
     }
     Ok(())
 }

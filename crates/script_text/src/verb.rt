@@ -16,12 +16,21 @@ pub enum Verb {
     Append,
     Read,
     Length,
+    Park,
+    Load,
 }
 
 impl Verb {
     ghost use Rattle.script_text.specs.Verbs.{verb_word};
 
-    const ALL: [Verb; 4] = [Verb::Make, Verb::Append, Verb::Read, Verb::Length];
+    const ALL: [Verb; 6] = [
+        Verb::Make,
+        Verb::Append,
+        Verb::Read,
+        Verb::Length,
+        Verb::Park,
+        Verb::Load,
+    ];
 
     fn word(self) -> &'static [u8]
         ensures { result.now ≡ verb_word self }
@@ -31,6 +40,8 @@ impl Verb {
             Verb::Append => b"append",
             Verb::Read => b"read",
             Verb::Length => b"length",
+            Verb::Park => b"park",
+            Verb::Load => b"load",
         }
     }
 

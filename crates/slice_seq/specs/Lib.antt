@@ -6,3 +6,5 @@ pub mod Used
 pub mod Purses
 -- how many slices a file needs to grow
 pub mod Needs
+-- the slices of a purse without a block, and those with one
+pub mod Idle

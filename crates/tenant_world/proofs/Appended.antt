@@ -1,37 +1,27 @@
--- An append that is done, as a step of a history.
-use Rattle.std.proofs.Common.{◌≡◌, ℕ, ◌+◌, ◌-◌, ◌≤◌, cond, List, [], ◌++◌, length, map, refl, sym, ap, subst, ◌∙◌, arith, Some}
-use Rattle.std.proofs.Common.{MatchBool, is_some, true}
+-- What an append and a load place, as a history says it.
+use Rattle.std.proofs.Common.{◌≡◌, ℕ, zero, suc, ◌+◌, ◌-◌, ◌<◌, ◌≤◌, nat_lt, not, Bool, true, false, cond, List, ◌∷◌, ◌++◌, length, map, take, refl, sym, ap, ◌∙◌, arith, Some}
 use Rattle.std.specs.declared.option.Option.{Option}
-use Rattle.std.specs.Prelude.{All}
+use Rattle.std.specs.Option.{option_map_or, unwrap_or}
 use Rattle.std.specs.Int.{div_ceil}
-use Rattle.std.specs.List.{range_with_len}
+use Rattle.std.specs.List.{filter, range_with_len}
 use Rattle.std.specs.Ordering.{is_eq}
 use Rattle.std.specs.Cmp.{tied_itself}
 use Rattle.std.specs.FinMap.{find, put}
 use Rattle.std.specs.FinMap.Entries.{find-put}
+use Rattle.std.proofs.lemmas.Bool.{lt-ltb}
 use Rattle.std.proofs.lemmas.Cmp.{nat_list_cmp_total}
-use Rattle.std.proofs.lemmas.List.{length-map}
-use Rattle.std.proofs.lemmas.List.FromFn.{length-range_with_len}
+use Rattle.std.proofs.lemmas.List.{length-take}
 use Rattle.far_words.specs.Paths.{bytes_cmp}
-use Rattle.far_words.specs.declared.request.Request.TheVariants.{Append}
-use Rattle.far_words.specs.declared.request.Reply.{Reply}
-use Rattle.far_words.specs.declared.request.Reply.TheVariants.{Number}
-use Rattle.far_words.specs.declared.request.Outcome.TheVariants.{Reply as Replied}
-use Rattle.far_words.specs.declared.moves.PlacedRow.{PlacedRow}
-use Rattle.slice_seq.specs.Purses.{open_slices}
-use Rattle.far_history.specs.Worlds.{FileBody, Node, World, with_node, body_bytes, bytes_named}
-use Rattle.far_words.specs.declared.request.TheConstants.{MOST_IN_REQUEST, MOST_IN_FILE}
-use Rattle.far_history.specs.Answers.{answer}
-use Rattle.far_history.specs.Entries.{Ask, Entry}
-use Rattle.far_history.specs.Layouts.{Layout, KeptAs, KeptDir, KeptFile, kept_at, kept_blocks, block_numbers, new_numbers, kept_longer}
-use Rattle.far_history.specs.Histories.{Terms, State, after_placed}
-use Rattle.far_history.specs.Needs.{Spot, spots, placing, IsKeptWhole}
+use Rattle.far_words.specs.declared.request.Request.TheVariants.{Append, Load}
+use Rattle.slice_seq.specs.Purses.{Purse, has_block, open_slices}
+use Rattle.far_history.specs.Worlds.{bytes_named}
+use Rattle.far_history.specs.Entries.{Entry}
+use Rattle.far_history.specs.Layouts.{Layout, KeptAs, KeptDir, KeptFile, kept_at, kept_blocks, kept_block, kept_indexes, block_numbers, new_numbers, kept_longer}
+use Rattle.far_history.specs.Histories.{Terms, State}
+use Rattle.far_history.specs.Needs.{Spot, touched, spots, parked_spots, placing}
 use Rattle.far_history.specs.Legal.{Places}
-use Rattle.far_history.specs.Standing.{IsServed, plain_entry}
-use Rattle.far_history.proofs.Asked.{IsFile, refusal-append, answer-append}
-use Rattle.std.specs.Option.{unwrap_or, option_map_or}
-use Rattle.block_home.specs.Purses.{place_of}
-use Rattle.tenant_world.proofs.Spots.{spots-append}
+use Rattle.tenant_world.specs.Keeping.{is_away, away_spots}
+use Rattle.tenant_world.proofs.Placing.{length-placing}
 
 -- what was put is found
 pub kept_at-put : (layout : Layout) (path : List ℕ) (kept : KeptAs) → kept_at (put bytes_cmp path kept layout) path ≡ kept
@@ -47,67 +37,59 @@ longer-is size layout path blocks added count kept numbers many =
     ∙ ap (λ n. KeptFile (blocks ++ new_numbers n (block_numbers layout))) (sym many)
     ∙ ap (λ l. KeptFile (blocks ++ l)) numbers
 
--- a file that is there grew by bytes that are within the limits, into blocks that took the lowest free numbers and the lowest open slices
-pub record Appends (t : Terms) (s : State) (path more bytes blocks added : List ℕ) (lease : ℕ) (rows : List PlacedRow) (u : State) : Type 0 where
-  pub some : 1 ≤ t.size
-  pub short : length more ≤ MOST_IN_REQUEST
-  pub within : length bytes + length more ≤ MOST_IN_FILE
-  pub file : IsFile s.world path lease bytes
-  pub whole : IsKeptWhole t s path blocks
-  pub resident : All (λ block. is_some (place_of s.purse block) ≡ true) blocks
-  pub numbers : new_numbers (length added) (block_numbers s.layout) ≡ added
-  pub many : length added ≡ div_ceil (length bytes + length more) t.size - length blocks
-  pub rows_are : rows ≡ placing (open_slices s.purse) (map (λ i. (path, i)) (range_with_len (length blocks) (length added)))
-  pub each_placed : length rows ≡ length added
-  pub world : u.world ≡ with_node s.world path (record { lease = lease; body = FileBody (bytes ++ more) })
-  pub layout : u.layout ≡ put bytes_cmp path (KeptFile (blocks ++ added)) s.layout
-  pub purse : u.purse ≡ after_placed u.layout s.purse rows
+-- a name is a file in these blocks, and these are the slices
+pub record KeptIn (s : State) (path blocks : List ℕ) (purse : Purse) : Type 0 where
+  pub kept : kept_at s.layout path ≡ KeptFile blocks
+  pub slices : s.purse ≡ purse
 
-module _ (t : Terms) (s : State) (path more bytes blocks added : List ℕ) (lease at : ℕ) (rows : List PlacedRow) (u : State) (a : Appends t s path more bytes blocks added lease rows u) where
-  abbrev entry : Entry
-  entry = plain_entry (Ask at (Append path more)) (Replied (Number (length bytes + length more))) rows
+module _ (t : Terms) (s : State) (path blocks : List ℕ) (purse : Purse) (k : KeptIn s path blocks purse) where
+  away : List ℕ → List Spot
+  away indexes = map (λ index. (path, index)) (filter (λ index. not (option_map_or (has_block s.purse) (kept_block (kept_at s.layout path) index) false)) indexes)
 
-  answered : answer s.world (Append path more) ≡ (with_node s.world path (record { lease = lease; body = FileBody (bytes ++ more) }), Number (length bytes + length more))
-  answered = answer-append s.world path more lease bytes a.short a.file a.within
+  away-is : (indexes : List ℕ) → map (λ index. (path, index)) (filter (λ index. not (option_map_or (has_block s.purse) (kept_block (kept_at s.layout path) index) false)) indexes) ≡ away_spots path purse blocks indexes
+  away-is indexes = λ i. map (λ index. (path, index)) (filter (λ index. not (option_map_or (has_block (k.slices i)) (kept_block (k.kept i) index) false)) indexes)
 
-  bytes_are : bytes_named s.world path ≡ bytes
-  bytes_are = ap (λ (o : Option Node). option_map_or (λ node. body_bytes node.body) o []) a.file.node
+  -- the spots of an append to a file of so many bytes
+  pub spots-append : (more : List ℕ) (size old : ℕ) → t.size ≡ size → length (bytes_named s.world path) ≡ old → spots t s (Append path more) ≡ away_spots path purse blocks (touched size old (length more))
+  spots-append more size old size_is long =
+      away-is (touched t.size (length (bytes_named s.world path)) (length more))
+      ∙ (λ i. away_spots path purse blocks (touched (size_is i) (long i) (length more)))
 
-  spots_are : spots t s (Append path more) ≡ map (λ i. (path, i)) (range_with_len (length blocks) (length added))
-  spots_are =
-      spots-append t s path blocks a.some a.whole a.resident more
-      ∙ ap (λ (n : ℕ). map (λ i. (path, i)) (range_with_len (length blocks) (div_ceil (n + length more) t.size - length blocks))) (ap length bytes_are)
-      ∙ ap (λ (n : ℕ). map (λ i. (path, i)) (range_with_len (length blocks) n)) (sym a.many)
+  -- and of a load
+  pub spots-load : spots t s (Load path) ≡ away_spots path purse blocks (range_with_len 0 (length blocks))
+  spots-load =
+      away-is (kept_indexes (kept_at s.layout path))
+      ∙ ap (λ (kept : KeptAs). away_spots path purse blocks (kept_indexes kept)) k.kept
 
-  places : Places s entry (spots t s (Append path more))
-  places =
-      let new : List Spot = map (λ i. (path, i)) (range_with_len (length blocks) (length added)) in
-      let count : length new ≡ length added = length-map (range_with_len (length blocks) (length added)) (λ i. (path, i)) ∙ length-range_with_len (length blocks) (length added) in
-      record {
-        rows = a.rows_are ∙ ap (placing (open_slices s.purse)) (sym spots_are);
-        all = a.each_placed ∙ sym count ∙ ap length (sym spots_are);
-      }
+  -- all of these are parked ones
+  pub parked-load : parked_spots t s (Load path) ≡ away_spots path purse blocks (range_with_len 0 (length blocks))
+  parked-load =
+      ap (filter (λ (spot : Spot). nat_lt spot.1 (length (kept_blocks (kept_at s.layout spot.0))))) spots-load
+      ∙ within (is_away purse blocks) 0 (length blocks) (omega arith)
+    where
+      here : (index : ℕ) → index < length blocks → nat_lt index (length (kept_blocks (kept_at s.layout path))) ≡ true
+      here index inside = ap (λ (kept : KeptAs). nat_lt index (length (kept_blocks kept))) k.kept ∙ lt-ltb index (length blocks) inside
 
-  longer : kept_longer t.size s.layout path (length bytes + length more) ≡ KeptFile (blocks ++ added)
-  longer = longer-is t.size s.layout path blocks added (length bytes + length more) a.whole.kept a.numbers a.many
+      within : (p : ℕ → Bool) (from count : ℕ) → from + count ≤ length blocks
+          → filter (λ (spot : Spot). nat_lt spot.1 (length (kept_blocks (kept_at s.layout spot.0)))) (map (λ index. (path, index)) (filter p (range_with_len from count))) ≡ map (λ index. (path, index)) (filter p (range_with_len from count))
+      within p from zero fits = refl
+      within p from (suc count) fits = by (p from) (within p (from + 1) count (omega arith))
+        where
+          by : (b : Bool) → filter (λ (spot : Spot). nat_lt spot.1 (length (kept_blocks (kept_at s.layout spot.0)))) (map (λ index. (path, index)) (filter p (range_with_len (from + 1) count))) ≡ map (λ index. (path, index)) (filter p (range_with_len (from + 1) count))
+              → filter (λ (spot : Spot). nat_lt spot.1 (length (kept_blocks (kept_at s.layout spot.0)))) (map (λ index. (path, index)) (cond b (from ∷ filter p (range_with_len (from + 1) count)) (filter p (range_with_len (from + 1) count)))) ≡ map (λ index. (path, index)) (cond b (from ∷ filter p (range_with_len (from + 1) count)) (filter p (range_with_len (from + 1) count)))
+          by false rest = rest
+          by true rest =
+              let others : List Spot = map (λ index. (path, index)) (filter p (range_with_len (from + 1) count)) in
+              ap (λ b. cond b ((path, from) ∷ filter (λ (spot : Spot). nat_lt spot.1 (length (kept_blocks (kept_at s.layout spot.0)))) others) (filter (λ (spot : Spot). nat_lt spot.1 (length (kept_blocks (kept_at s.layout spot.0)))) others)) (here from (omega arith))
+              ∙ ap (λ l. (path, from) ∷ l) rest
 
-  world_is : u.world ≡ (answer s.world (Append path more)).0
-  world_is = a.world ∙ sym (ap (λ (r : World × Reply). r.0) answered)
+-- rows in the lowest open slices, of which there are enough, are placements
+pub places_of : (s : State) (e : Entry) (purse : Purse) (xs : List Spot) → s.purse ≡ purse → e.placed ≡ placing (open_slices purse) xs → length xs ≤ length (open_slices purse) → Places s e xs
+places_of s e purse xs slices placed room = record {
+  rows = placed ∙ ap (λ (p : Purse). placing (open_slices p) xs) (sym slices);
+  all = ap length placed ∙ length-placing (open_slices purse) xs room;
+}
 
-  layout_is : u.layout ≡ put bytes_cmp path (kept_longer t.size s.layout path (length bytes + length more)) s.layout
-  layout_is = a.layout ∙ ap (λ (k : KeptAs). put bytes_cmp path k s.layout) (sym longer)
-
-  purse_is : u.purse ≡ after_placed (put bytes_cmp path (kept_longer t.size s.layout path (length bytes + length more)) s.layout) s.purse rows
-  purse_is = a.purse ∙ ap (λ (l : Layout). after_placed l s.purse rows) layout_is
-
-  -- so a history says of it
-  pub append-served : IsServed t s (plain_entry (Ask at (Append path more)) (Replied (Number (length bytes + length more))) rows) u
-  append-served = record {
-    answered = omega arith;
-    right = (
-      sym (ap (λ (r : World × Reply). r.1) answered),
-      refl,
-      subst (λ (o : Option Reply). MatchBool (is_some o) (rows ≡ []) (Places s entry (spots t s (Append path more)))) (sym (refusal-append s.world path more lease bytes a.short a.file a.within)) places,
-    );
-    left = λ i. record { world = world_is i; purse = purse_is i; layout = layout_is i };
-  }
+-- the first so many of some spots are no more than all
+pub few_spots : (n : ℕ) (xs : List Spot) → length (take n xs) ≤ length xs
+few_spots n xs = omega (arith, length-take n xs)

@@ -12,11 +12,11 @@ use Rattle.std.proofs.lemmas.List.Elements.{All-from_recursion, recursion_from_A
 use Rattle.far_words.specs.Paths.{bytes_cmp}
 use Rattle.far_history.specs.Layouts.{KeptAs, kept_blocks, block_numbers}
 use Rattle.far_history.specs.Plain.{seen_by}
-use Rattle.block_home.specs.Homes.{HomeView}
-use Rattle.block_file.specs.Growth.{Grows}
+use Rattle.block_seats.specs.Seatings.{SeatingView}
+use Rattle.block_file.specs.Growth.{AddsBlocks}
 use Rattle.tenant_world.specs.Well.{AreItsBlocks}
 use Rattle.tenant_world.proofs.Counted.{count_of, IsOnce, count_of-append, counted_at, counts_apart, same_members, pairs_once, once_pairs, once_same}
-use Rattle.tenant_world.proofs.Numbers.{grows_are, grows_once}
+use Rattle.tenant_world.proofs.Numbers.{numbers_after, once_after}
 use Rattle.tenant_world.proofs.Around.{Around, put_around, All-around, around_All}
 
 -- no block is one of those that are written
@@ -68,9 +68,9 @@ module _ {X : Type 0} (kept : X → KeptAs) (es : List (List ℕ × X)) (path : 
       let later : count_of q (numbers after) ≡ count_of q (front ++ ((was ++ added) ++ back)) = ap (count_of q) (numbers-around kept a.front a.back path y ∙ ap (λ l. front ++ (l ++ back)) longer) in
       omega (arith, before, later, count_of-append q front (was ++ back), count_of-append q was back, count_of-append q front ((was ++ added) ++ back), count_of-append q (was ++ added) back, count_of-append q was added, count_of-append q (numbers es) added)
 
-  module _ (old new : HomeView) (grows : Grows old added new) (are : AreItsBlocks old (numbers es)) (distinct : AllPairs ◌≢◌ (numbers es)) where
+  module _ (old new : SeatingView) (adds : AddsBlocks old added new) (are : AreItsBlocks old (numbers es)) (distinct : AllPairs ◌≢◌ (numbers es)) where
     once_grown : IsOnce (numbers after)
-    once_grown = once_same (numbers after) (numbers es ++ added) counts_after (grows_once old new added (numbers es) grows are (pairs_once (numbers es) distinct))
+    once_grown = once_same (numbers after) (numbers es ++ added) counts_after (once_after old added new (numbers es) are adds (pairs_once (numbers es) distinct))
 
     -- no number is twice then
     pub grown_distinct : AllPairs ◌≢◌ (numbers after)
@@ -78,7 +78,7 @@ module _ {X : Type 0} (kept : X → KeptAs) (es : List (List ℕ × X)) (path : 
 
     -- and they are those of the home's blocks
     pub grown_numbers : AreItsBlocks new (numbers after)
-    grown_numbers block = grows_are old new added (numbers es) grows are block ∙ sym (same_members (numbers after) (numbers es ++ added) counts_after block)
+    grown_numbers block = numbers_after old added new (numbers es) are adds block ∙ sym (same_members (numbers after) (numbers es ++ added) counts_after block)
 
     parts : (q : ℕ) → count_of q (numbers a.front) + (count_of q (kept_blocks (kept y)) + count_of q (numbers a.back)) ≤ 1
     parts q =

@@ -1,25 +1,23 @@
--- New blocks take the open slices, lowest first: what a home notes of it, and the purse after it.
+-- Blocks take the open slices, lowest first: what a home notes of it, and the purse after it.
 use Rattle.std.proofs.Common.{◌≡◌, ℕ, suc, ◌+◌, ◌≤◌, not, Bool, true, false, cond, List, [], ◌∷◌, ◌++◌, length, map, refl, sym, ap, subst, ◌∙◌, arith, Some}
 use Rattle.std.specs.declared.option.Option.{Option}
 use Rattle.std.specs.Option.{option_map, option_map_or}
-use Rattle.std.specs.List.{slice_get, range_with_len, filter, AllByRecursion}
+use Rattle.std.specs.List.{filter, AllByRecursion}
 use Rattle.std.specs.List.Sorted.{IsStrictlySortedBy}
 use Rattle.std.specs.Map.{keys_of}
 use Rattle.std.specs.Ordering.{nat_cmp}
 use Rattle.std.specs.declared.cmp.Ordering.TheVariants.{Less}
 use Rattle.std.specs.Cmp.{nat_cmp_total}
-use Rattle.std.proofs.lemmas.List.{append_assoc, append-nil, length-append, length-map, take_all}
+use Rattle.std.proofs.lemmas.List.{append_assoc, append-nil, length-append, take_all}
 use Rattle.std.proofs.lemmas.List.Elements.{filter-append}
-use Rattle.slice_seq.specs.Purses.{Held, Purse, is_used, granted, open_slices, holding}
-use Rattle.far_history.specs.Layouts.{Layout, KeptAs, KeptFile, kept_at, kept_block}
+use Rattle.slice_seq.specs.Purses.{Held, Purse, is_used, open_slices, holding}
+use Rattle.far_history.specs.Layouts.{Layout, kept_at, kept_block}
 use Rattle.far_history.specs.Histories.{after_placed}
-use Rattle.far_history.specs.Needs.{placing}
-use Rattle.block_home.specs.declared.moves.PlacedBlock.{PlacedBlock}
-use Rattle.block_home.specs.Purses.{lowest, next_place, with_block}
-use Rattle.block_home.specs.Noted.{NotedView, no_moves, noting_placed}
-use Rattle.block_home.specs.Homes.{HomeView, room_of}
-use Rattle.block_file.specs.Growth.{AddsBlocks, Grows, with_placed_block}
-use Rattle.tenant_world.specs.Rows.{rows_of}
+use Rattle.far_history.specs.Needs.{Spot, placing}
+use Rattle.block_seats.specs.declared.moves.PlacedBlock.{PlacedBlock}
+use Rattle.block_seats.specs.Purses.{lowest, next_place, with_block}
+use Rattle.block_seats.specs.Noted.{NotedView, noting_placed}
+use Rattle.block_file.specs.Growth.{with_blocks, noting_in}
 use Rattle.tenant_world.proofs.Around.{Around, put_at}
 
 -- the ids of a purse ascend
@@ -61,6 +59,15 @@ module _ (purse : Purse) (e : ℕ × Held) (others : Purse) (is : open_slices pu
   next_place-is : next_place purse ≡ Some (e.0, e.1.number + 1)
   next_place-is = ap (λ (s : Purse). option_map (λ (o : ℕ × Held). (o.0, o.1.number + 1)) (lowest s)) is
 
+  -- what is noted of it
+  noted-is : (moves : NotedView) → length moves.placed + 1 ≤ moves.most
+      → noting_placed moves (next_place purse) block ≡ record { most = moves.most; freed = moves.freed; placed = moves.placed ++ record { slice = e.0; number = e.1.number + 1; block = block } ∷ [] }
+  noted-is moves room =
+      let one : PlacedBlock = record { slice = e.0; number = e.1.number + 1; block = block } in
+      ap (λ (p : Option (ℕ × ℕ)). noting_placed moves p block) next_place-is
+      ∙ ap (λ (l : List PlacedBlock). record { most = moves.most; freed = moves.freed; placed = l })
+      (take_all moves.most (moves.placed ++ one ∷ []) (omega (arith, length-append moves.placed (one ∷ []))))
+
   module _ (ascends : Ascends purse) where
     abbrev held : Held
     held = record { number = e.1.number + 1; block = Some block }
@@ -97,11 +104,45 @@ length-placed_in slices [] room = refl
 length-placed_in [] (block ∷ blocks) room = absurd (omega arith)
 length-placed_in (e ∷ slices) (block ∷ blocks) room = ap suc (length-placed_in slices blocks (omega arith))
 
--- as rows they are what a history places
-pub rows_of-placed_in : (path : List ℕ) (index : ℕ) (slices : Purse) (blocks : List ℕ) → rows_of path index (placed_in slices blocks) ≡ placing slices (map (λ i. (path, i)) (range_with_len index (length blocks)))
-rows_of-placed_in path index slices [] = refl
-rows_of-placed_in path index [] (block ∷ blocks) = refl
-rows_of-placed_in path index (e ∷ slices) (block ∷ blocks) = ap (λ l. record { slice = e.0; number = e.1.number + 1; path = path; index = index } ∷ l) (rows_of-placed_in path (index + 1) slices blocks)
+-- what was noted before, and then these blocks in the open slices, lowest first
+pub noting_in-is : (moves : NotedView) (purse slices : Purse) (blocks : List ℕ) → Ascends purse → open_slices purse ≡ slices → length blocks ≤ length slices → length moves.placed + length blocks ≤ moves.most
+    → noting_in moves purse blocks ≡ record { most = moves.most; freed = moves.freed; placed = moves.placed ++ placed_in slices blocks }
+noting_in-is moves purse slices [] ascends is room fits = ap (λ (l : List PlacedBlock). record { most = moves.most; freed = moves.freed; placed = l }) (sym (append-nil moves.placed))
+noting_in-is moves purse [] (block ∷ blocks) ascends is room fits = absurd (omega arith)
+noting_in-is moves purse (e ∷ others) (block ∷ blocks) ascends is room fits =
+    let one : PlacedBlock = record { slice = e.0; number = e.1.number + 1; block = block } in
+    let noted : NotedView = record { most = moves.most; freed = moves.freed; placed = moves.placed ++ one ∷ [] } in
+    ap (λ (m : NotedView). noting_in m (with_block purse block) blocks) (noted-is purse e others is block moves (omega arith))
+    ∙ noting_in-is noted (with_block purse block) others blocks (with_block-ascends purse e others is block ascends) (with_block-open purse e others is block ascends)
+    (omega arith) (omega (arith, length-append moves.placed (one ∷ [])))
+    ∙ ap (λ (l : List PlacedBlock). record { most = moves.most; freed = moves.freed; placed = l }) (append_assoc moves.placed (one ∷ []) (placed_in others blocks))
+
+-- the ids stay
+pub with_blocks-keys : (purse slices : Purse) (blocks : List ℕ) → Ascends purse → open_slices purse ≡ slices → length blocks ≤ length slices → keys_of (with_blocks purse blocks) ≡ keys_of purse
+with_blocks-keys purse slices [] ascends is room = refl
+with_blocks-keys purse [] (block ∷ blocks) ascends is room = absurd (omega arith)
+with_blocks-keys purse (e ∷ others) (block ∷ blocks) ascends is room =
+    with_blocks-keys (with_block purse block) others blocks (with_block-ascends purse e others is block ascends) (with_block-open purse e others is block ascends) (omega arith)
+    ∙ with_block-keys purse e others is block ascends
+
+-- a layout has these blocks at these indexes of a name
+abbrev pub AreAt : Layout → List ℕ → List ℕ → List ℕ → Type 0
+AreAt layout path indexes blocks = map (λ i. kept_block (kept_at layout path) i) indexes ≡ map (λ b. Some b) blocks
+
+-- the purse after is the one that a history has after the rows of their spots
+pub with_blocks-placed : (layout : Layout) (path : List ℕ) (purse slices : Purse) (indexes blocks : List ℕ) → Ascends purse → open_slices purse ≡ slices → length blocks ≤ length slices → AreAt layout path indexes blocks
+    → with_blocks purse blocks ≡ after_placed layout purse (placing slices (map (λ i. (path, i)) indexes))
+with_blocks-placed layout path purse slices [] [] ascends is room at = refl
+with_blocks-placed layout path purse slices (i ∷ indexes) [] ascends is room at = cc
+with_blocks-placed layout path purse slices [] (block ∷ blocks) ascends is room at = cc
+with_blocks-placed layout path purse [] (i ∷ indexes) (block ∷ blocks) ascends is room at = absurd (omega arith)
+with_blocks-placed layout path purse (e ∷ others) (i ∷ indexes) (block ∷ blocks) ascends is room at =
+    let here : kept_block (kept_at layout path) i ≡ Some block = cc in
+    let rest : map (λ i. kept_block (kept_at layout path) i) indexes ≡ map (λ b. Some b) blocks = cc in
+    let placed : with_block purse block ≡ holding purse e.0 (e.1.number + 1) (kept_block (kept_at layout path) i) =
+    with_block-is purse e others is block ∙ ap (λ (b : Option ℕ). holding purse e.0 (e.1.number + 1) b) (sym here) in
+    with_blocks-placed layout path (with_block purse block) others indexes blocks (with_block-ascends purse e others is block ascends) (with_block-open purse e others is block ascends) (omega arith) rest
+    ∙ ap (λ (p : Purse). after_placed layout p (placing others (map (λ i. (path, i)) indexes))) placed
 
 -- the slices that pass a test are in the order of the purse
 filter_keys : (P : ℕ → Type 0) (p : ℕ × Held → Bool) (purse : Purse) → AllByRecursion P (keys_of purse) → AllByRecursion P (keys_of (filter p purse))
@@ -110,7 +151,7 @@ filter_keys P p (e ∷ purse) all =
     let rest = filter_keys P p purse all.1 in
     elim (p e) as (λ b. AllByRecursion P (keys_of (cond b (e ∷ filter p purse) (filter p purse)))) [ true ↦ (all.0, rest) | false ↦ rest ]
 
-filter_ascends : (p : ℕ × Held → Bool) (purse : Purse) → Ascends purse → Ascends (filter p purse)
+pub filter_ascends : (p : ℕ × Held → Bool) (purse : Purse) → Ascends purse → Ascends (filter p purse)
 unfolding IsStrictlySortedBy
 filter_ascends p [] ascends = tt
 filter_ascends p (e ∷ purse) ascends =
@@ -118,109 +159,23 @@ filter_ascends p (e ∷ purse) ascends =
     let above = filter_keys (λ k. nat_cmp e.0 k ≡ Less) p purse ascends.0 in
     elim (p e) as (λ b. Ascends (cond b (e ∷ filter p purse) (filter p purse))) [ true ↦ (above, rest) | false ↦ rest ]
 
-pub open_ascends : (purse : Purse) → Ascends purse → Ascends (open_slices purse)
-open_ascends purse ascends = filter_ascends (λ e. not (is_used e.1)) purse ascends
+-- and so are the rows of spots that are placed in them
+placing_keys : (P : ℕ → Type 0) (slices : Purse) (spots : List Spot) → AllByRecursion P (keys_of slices) → AllByRecursion P (map (λ row. row.slice) (placing slices spots))
+placing_keys P slices [] all = tt
+placing_keys P [] (spot ∷ spots) all = tt
+placing_keys P (e ∷ slices) (spot ∷ spots) all = (all.0, placing_keys P slices spots all.1)
 
--- and so are the rows of blocks that take them
-rows_keys : (P : ℕ → Type 0) (path : List ℕ) (index : ℕ) (slices : Purse) (blocks : List ℕ) → AllByRecursion P (keys_of slices) → AllByRecursion P (map (λ row. row.slice) (rows_of path index (placed_in slices blocks)))
-rows_keys P path index slices [] all = tt
-rows_keys P path index [] (block ∷ blocks) all = tt
-rows_keys P path index (e ∷ slices) (block ∷ blocks) all = (all.0, rows_keys P path (index + 1) slices blocks all.1)
-
-pub rows_ascend : (path : List ℕ) (index : ℕ) (slices : Purse) (blocks : List ℕ) → Ascends slices → IsStrictlySortedBy nat_cmp (map (λ row. row.slice) (rows_of path index (placed_in slices blocks)))
+pub placing_ascends : (slices : Purse) (spots : List Spot) → Ascends slices → IsStrictlySortedBy nat_cmp (map (λ row. row.slice) (placing slices spots))
 unfolding IsStrictlySortedBy
-rows_ascend path index slices [] ascends = tt
-rows_ascend path index [] (block ∷ blocks) ascends = tt
-rows_ascend path index (e ∷ slices) (block ∷ blocks) ascends = (rows_keys (λ k. nat_cmp e.0 k ≡ Less) path (index + 1) slices blocks ascends.0, rows_ascend path (index + 1) slices blocks ascends.1)
+placing_ascends slices [] ascends = tt
+placing_ascends [] (spot ∷ spots) ascends = tt
+placing_ascends (e ∷ slices) (spot ∷ spots) ascends = (placing_keys (λ k. nat_cmp e.0 k ≡ Less) slices spots ascends.0, placing_ascends slices spots ascends.1)
 
--- one row more
-pub rows_of-push : (path : List ℕ) (index : ℕ) (placed : List PlacedBlock) (one : PlacedBlock) (at : ℕ) → at ≡ index + length placed
-    → rows_of path index (placed ++ one ∷ []) ≡ rows_of path index placed ++ record { slice = one.slice; number = one.number; path = path; index = at } ∷ []
-rows_of-push path index [] one at e = ap (λ i. record { slice = one.slice; number = one.number; path = path; index = i } ∷ []) (let same : index ≡ at = omega arith in same)
-rows_of-push path index (p ∷ placed) one at e = ap (λ l. record { slice = p.slice; number = p.number; path = path; index = index } ∷ l) (rows_of-push path (index + 1) placed one at (omega arith))
+pub length-placing : (slices : Purse) (spots : List Spot) → length spots ≤ length slices → length (placing slices spots) ≡ length spots
+length-placing slices [] room = refl
+length-placing [] (spot ∷ spots) room = absurd (omega arith)
+length-placing (e ∷ slices) (spot ∷ spots) room = ap suc (length-placing slices spots (omega arith))
 
-pub length-rows_of : (path : List ℕ) (index : ℕ) (placed : List PlacedBlock) → length (rows_of path index placed) ≡ length placed
-length-rows_of path index [] = refl
-length-rows_of path index (p ∷ placed) = ap suc (length-rows_of path (index + 1) placed)
-
--- the home with one block more, where these slices are open
-module _ (home : HomeView) (e : ℕ × Held) (others : Purse) (is : open_slices home.purse ≡ e ∷ others) (block : ℕ) where
-  noted-is : (bytes : List ℕ) (moves : NotedView) → home.moves ≡ moves → length moves.placed + 1 ≤ moves.most
-      → (with_placed_block home block bytes).moves ≡ record { most = moves.most; freed = moves.freed; placed = moves.placed ++ record { slice = e.0; number = e.1.number + 1; block = block } ∷ [] }
-  noted-is bytes moves moves_are room =
-      (λ i. noting_placed (moves_are i) (next_place-is home.purse e others is block i) block)
-      ∙ ap (λ (l : List PlacedBlock). record { most = moves.most; freed = moves.freed; placed = l })
-      (take_all moves.most (moves.placed ++ record { slice = e.0; number = e.1.number + 1; block = block } ∷ []) (omega (arith, length-append moves.placed (record { slice = e.0; number = e.1.number + 1; block = block } ∷ []))))
-
--- what was noted before, and then the new blocks in the open slices, lowest first
-pub adds_moves : (old : HomeView) (added : List ℕ) (new : HomeView) (slices : Purse) (moves : NotedView) → AddsBlocks old added new → Ascends old.purse → open_slices old.purse ≡ slices → old.moves ≡ moves
-    → length added ≤ length slices → length moves.placed + length added ≤ moves.most
-    → new.moves ≡ record { most = moves.most; freed = moves.freed; placed = moves.placed ++ placed_in slices added }
-adds_moves old [] new slices moves same ascends is moves_are room fits =
-    ap (λ (h : HomeView). h.moves) same ∙ moves_are ∙ ap (λ (l : List PlacedBlock). record { most = moves.most; freed = moves.freed; placed = l }) (sym (append-nil moves.placed))
-adds_moves old (block ∷ added) new [] moves adds ascends is moves_are room fits = absurd (omega arith)
-adds_moves old (block ∷ added) new (e ∷ others) moves adds ascends is moves_are room fits =
-    let one : PlacedBlock = record { slice = e.0; number = e.1.number + 1; block = block } in
-    adds_moves (with_placed_block old block adds.0) added new others (record { most = moves.most; freed = moves.freed; placed = moves.placed ++ one ∷ [] }) adds.2
-    (with_block-ascends old.purse e others is block ascends) (with_block-open old.purse e others is block ascends) (noted-is old e others is block adds.0 moves moves_are (omega arith))
-    (omega arith) (omega (arith, length-append moves.placed (one ∷ [])))
-    ∙ ap (λ (l : List PlacedBlock). record { most = moves.most; freed = moves.freed; placed = l }) (append_assoc moves.placed (one ∷ []) (placed_in others added))
-
--- the ids stay
-pub adds_keys : (old : HomeView) (added : List ℕ) (new : HomeView) (slices : Purse) → AddsBlocks old added new → Ascends old.purse → open_slices old.purse ≡ slices → length added ≤ length slices → keys_of new.purse ≡ keys_of old.purse
-adds_keys old [] new slices same ascends is room = ap (λ (h : HomeView). keys_of h.purse) same
-adds_keys old (block ∷ added) new [] adds ascends is room = absurd (omega arith)
-adds_keys old (block ∷ added) new (e ∷ others) adds ascends is room =
-    adds_keys (with_placed_block old block adds.0) added new others adds.2 (with_block-ascends old.purse e others is block ascends) (with_block-open old.purse e others is block ascends) (omega arith)
-    ∙ with_block-keys old.purse e others is block ascends
-
--- the block after a front
-at_end : (front : List ℕ) (block : ℕ) (blocks : List ℕ) → slice_get (front ++ block ∷ blocks) (length front) ≡ Some block
-at_end [] block blocks = refl
-at_end (x ∷ front) block blocks = at_end front block blocks
-
-block_at_end : (layout : Layout) (path front : List ℕ) (block : ℕ) (blocks : List ℕ) → kept_at layout path ≡ KeptFile (front ++ block ∷ blocks) → kept_block (kept_at layout path) (length front) ≡ Some block
-block_at_end layout path front block blocks kept = ap (λ (k : KeptAs). kept_block k (length front)) kept ∙ at_end front block blocks
-
--- the purse after is the one that a history has after these rows
-pub adds_purse : (layout : Layout) (path front : List ℕ) (index : ℕ) (old : HomeView) (added : List ℕ) (new : HomeView) (slices : Purse) → AddsBlocks old added new → Ascends old.purse → open_slices old.purse ≡ slices
-    → length added ≤ length slices → index ≡ length front → kept_at layout path ≡ KeptFile (front ++ added)
-    → new.purse ≡ after_placed layout old.purse (rows_of path index (placed_in slices added))
-adds_purse layout path front index old [] new slices same ascends is room at kept = ap (λ (h : HomeView). h.purse) same
-adds_purse layout path front index old (block ∷ added) new [] adds ascends is room at kept = absurd (omega arith)
-adds_purse layout path front index old (block ∷ added) new (e ∷ others) adds ascends is room at kept =
-    let here : kept_block (kept_at layout path) index ≡ Some block = ap (kept_block (kept_at layout path)) at ∙ block_at_end layout path front block added kept in
-    let placed : with_block old.purse block ≡ holding old.purse e.0 (e.1.number + 1) (kept_block (kept_at layout path) index) =
-    with_block-is old.purse e others is block ∙ ap (λ (b : Option ℕ). holding old.purse e.0 (e.1.number + 1) b) (sym here) in
-    let next : index + 1 ≡ length (front ++ block ∷ []) = omega (arith, length-append front (block ∷ [])) in
-    adds_purse layout path (front ++ block ∷ []) (index + 1) (with_placed_block old block adds.0) added new others adds.2
-    (with_block-ascends old.purse e others is block ascends) (with_block-open old.purse e others is block ascends) (omega arith) next
-    (kept ∙ ap (λ (bs : List ℕ). KeptFile bs) (sym (append_assoc front (block ∷ []) added)))
-    ∙ ap (λ (p : Purse). after_placed layout p (rows_of path (index + 1) (placed_in others added))) placed
-
--- a file grew in a home that had noted nothing, and there were slices enough
-module _ (old new : HomeView) (added : List ℕ) (most : ℕ) (grows : Grows old added new) (ascends : Ascends old.purse) (room : length added ≤ room_of old) (none : old.moves ≡ no_moves most) (fits : length added ≤ most) where
-  pub grows_moves : new.moves ≡ record { most = most; freed = []; placed = placed_in (open_slices old.purse) added }
-  grows_moves = adds_moves (record old { blocks = grows.blocks }) added new (open_slices old.purse) (no_moves most) grows.adds ascends refl none room (omega arith)
-
-  pub grows_placed : new.moves.placed ≡ placed_in (open_slices old.purse) added
-  grows_placed = ap (λ (m : NotedView). m.placed) grows_moves
-
-  pub grows_count : length new.moves.placed ≡ length added
-  grows_count = ap length grows_placed ∙ length-placed_in (open_slices old.purse) added room
-
-  -- the rows are a history's placements of the new blocks
-  pub grows_rows : (path : List ℕ) (first : ℕ) → rows_of path first new.moves.placed ≡ placing (open_slices old.purse) (map (λ i. (path, i)) (range_with_len first (length added)))
-  grows_rows path first = ap (rows_of path first) grows_placed ∙ rows_of-placed_in path first (open_slices old.purse) added
-
-  -- and the purse is the one that these rows lead to
-  pub grows_purse : (layout : Layout) (path front : List ℕ) (first : ℕ) → first ≡ length front → kept_at layout path ≡ KeptFile (front ++ added) → new.purse ≡ after_placed layout old.purse (rows_of path first new.moves.placed)
-  grows_purse layout path front first at kept =
-      adds_purse layout path front first (record old { blocks = grows.blocks }) added new (open_slices old.purse) grows.adds ascends refl room at kept
-      ∙ ap (λ l. after_placed layout old.purse (rows_of path first l)) (sym grows_placed)
-
-  pub grows_keys : keys_of new.purse ≡ keys_of old.purse
-  grows_keys = adds_keys (record old { blocks = grows.blocks }) added new (open_slices old.purse) grows.adds ascends refl room
-
-  pub grows_granted : granted new.purse ≡ granted old.purse
-  grows_granted = sym (length-map new.purse (λ (e : ℕ × Held). e.0)) ∙ ap length grows_keys ∙ length-map old.purse (λ (e : ℕ × Held). e.0)
+-- rows in the open slices are in the order of their ids
+pub placed_order : (purse : Purse) (spots : List Spot) → Ascends purse → IsStrictlySortedBy nat_cmp (map (λ row. row.slice) (placing (open_slices purse) spots))
+placed_order purse spots ascends = placing_ascends (open_slices purse) spots (filter_ascends (λ e. not (is_used e.1)) purse ascends)

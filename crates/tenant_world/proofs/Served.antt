@@ -1,232 +1,223 @@
--- Requests that a state answers.
-use Rattle.std.proofs.Common.{◌≡◌, ◌≤◌, ℕ, max, Bool, true, false, ◌==◌, cond, MatchBool, is_some, IsNone, List, [], ◌∷◌, ◌++◌, take, map, refl, ap, sym, subst, ◌∙◌, Some, None, le_refl}
-use Rattle.std.proofs.lemmas.Bool.{eqb-true}
+-- Requests that a state answers, while the fields that show it stay.
+use Rattle.std.proofs.Common.{◌≡◌, ◌≤◌, ℕ, Bool, true, false, cond, MatchBool, is_some, IsTrue, IsNone, List, [], ◌∷◌, length, take, filter, map, refl, ap, sym, subst, ◌∙◌, Some, None}
 use Rattle.std.specs.declared.option.Option.{Option}
-use Rattle.std.specs.Option.{option_map}
 use Rattle.std.specs.List.Sorted.{IsStrictlySortedBy}
 use Rattle.std.specs.Ordering.{nat_cmp}
-use Rattle.std.specs.Map.{lookup, keys_of}
-use Rattle.std.specs.BTreeMap.{is_at}
-use Rattle.far_words.specs.Paths.{bytes_cmp}
+use Rattle.std.specs.Map.{keys_of}
+use Rattle.far_io.specs.Faults.{Faults}
+use Rattle.shelf_link.specs.Told.{Told, is_sure}
+use Rattle.shelf_link.specs.Blocks as map
 use Rattle.far_words.specs.Moves.{MovesView, AreInOrder, no_moves}
 use Rattle.far_words.specs.declared.moves.PlacedRow.{PlacedRow}
 use Rattle.far_words.specs.declared.request.Request.{Request}
 use Rattle.far_words.specs.declared.request.Reply.{Reply}
-use Rattle.far_words.specs.declared.request.Outcome.{Outcome}
 use Rattle.far_words.specs.declared.request.Outcome.TheVariants.{Reply as Replied}
-use Rattle.far_history.specs.Worlds.{World, node_at}
+use Rattle.slice_seq.specs.Purses.{Purse, Held}
+use Rattle.far_history.specs.Worlds.{World}
 use Rattle.far_history.specs.Answers.{answer, refusal}
 use Rattle.far_history.proofs.Asked.{answer-refused}
-use Rattle.far_history.specs.Entries.{Event, Ask, Entry}
-use Rattle.far_history.specs.Histories.{Terms, State, at_event, after_entry, is_excuse, layout_asked}
+use Rattle.far_history.specs.Entries.{Ask, Entry}
+use Rattle.far_history.specs.Layouts.{Layout}
+use Rattle.far_history.specs.Histories.{Terms, State, after_moment, after_freed, after_placed, is_excuse, layout_asked, world_after}
 use Rattle.far_history.specs.Needs.{spots, parked_spots}
-use Rattle.far_history.specs.Legal.{Excuse, IsOutcome, IsRightEntry, Places}
-use Rattle.far_history.specs.Standing.{frame_bytes, most_in_frame, IsServed, IsStep, StandsForHistory, plain_entry}
-use Rattle.far_history.proofs.Grows.{stands_more}
-use Rattle.far_history.proofs.Seen.{find-seen_by}
-use Rattle.block_home.specs.Homes.{HomeView, granted_of}
+use Rattle.far_history.specs.Legal.{Excuse, IsReply, IsFreed, IsPlaced, IsOutcome, MovesSlices, Places, slices_of}
+use Rattle.far_history.specs.Standing.{FitsFrame, frame_bytes, most_in_frame, IsCaused, IsServed}
+use Rattle.block_seats.specs.Blocks.{Blocks}
+use Rattle.block_home.specs.Holding.{Holds}
 use Rattle.tenant_world.specs.declared.names.Named.{Named}
-use Rattle.tenant_world.specs.Views.{TenantView, entry_from, named_node, state_of, told_state}
-use Rattle.tenant_world.specs.declared.tenant.Tenant.TheInside.{Inside}
-use Rattle.tenant_world.specs.Well.{tenant_view}
-use Rattle.tenant_world.specs.Serves.{IsStill, IsAskStep, KeepsHolding, Serves}
+use Rattle.tenant_world.specs.Outlines.{outline_of, named_outline, kept_of}
+use Rattle.far_history.specs.Plain.{seen_by}
+use Rattle.tenant_world.specs.Views.{TenantView, count_in, entry_from}
+use Rattle.tenant_world.specs.Standing.{Sits, Lies, node_in}
+use Rattle.tenant_world.specs.Telling.{IsUndamaged, NeverDamaged, ExcusesVoid}
+use Rattle.tenant_world.specs.Serves.{IsStill, Keeps, Serves, entry_over}
 
--- where there is a state no slice is kept aside, and the state is that of the fields
-pub record IsTold (moment : ℕ) (names : List (List ℕ × Named)) (home : HomeView) (s : State) : Type 0 where
-  pub none : home.strays ≡ 0
-  pub state : state_of moment names home ≡ s
+-- nothing that a state shows in has changed
+pub record IsUnmoved {K : Type 0} (told : K → Told) (old new : TenantView K) : Type 0 where
+  pub moment : new.moment ≡ old.moment
+  pub names : new.names ≡ old.names
+  pub user : new.home.user ≡ old.home.user
+  pub strays : new.home.seats.strays ≡ old.home.seats.strays
+  pub purse : new.home.seats.purse ≡ old.home.seats.purse
+  pub blocks : new.home.seats.blocks ≡ old.home.seats.blocks
+  pub told_is : told new.home.shelf ≡ told old.home.shelf
 
-some_is : (b : Bool) (s u : State) → cond b (Some s) None ≡ Some u → (b ≡ true) × (s ≡ u)
-some_is true s u e = (refl, some_inside s u e)
-  where
-    some_inside : (s u : State) → Some s ≡ Some u → s ≡ u
-    some_inside s u e = cc
-some_is false s u e = cc
-
-pub told_is : (moment : ℕ) (names : List (List ℕ × Named)) (home : HomeView) (s : State) → told_state moment names home ≡ Some s → IsTold moment names home s
-told_is moment names home s e =
-    let both = some_is (home.strays == 0) (state_of moment names home) s e in
-    record { none = eqb-true home.strays 0 both.0; state = both.1 }
-
-pub told_some : (moment : ℕ) (names : List (List ℕ × Named)) (home : HomeView) → home.strays ≡ 0 → told_state moment names home ≡ Some (state_of moment names home)
-told_some moment names home none = ap (λ n. cond (n == 0) (Some (state_of moment names home)) None) none
-
--- the entry of a request that moves nothing
-abbrev pub still_entry : ℕ → Request → Reply → MovesView → Entry
-still_entry moment request reply moves = entry_from (Ask moment request) (Replied reply) moves
-
--- an entry whose moves are none, with its parts written out
-entry_is : (moment : ℕ) (request : Request) (reply : Reply) (moves : MovesView) → IsStill moves → still_entry moment request reply moves ≡ plain_entry (Ask moment request) (Replied reply) []
-entry_is moment request reply moves still i = record { event = Ask moment request; outcome = Replied reply; freed = still.freed i; placed = still.placed i; before = 0; after = 0 }
-
--- a refusal that the world shows leaves all as it is
-refused_plain : (t : Terms) (s : State) (request : Request) (reply : Reply) (moment : ℕ) → refusal s.world request ≡ Some reply → is_excuse reply ≡ false → frame_bytes reply ≤ most_in_frame
-    → layout_asked t s.layout request reply ≡ s.layout → IsServed t s (plain_entry (Ask moment request) (Replied reply) []) s
-refused_plain t s request reply moment refuses plain fits stays =
-    let e : Entry = plain_entry (Ask moment request) (Replied reply) [] in
-    let answers : answer s.world request ≡ (s.world, reply) = answer-refused s.world request reply refuses in
-    record {
-      answered = fits;
-      right = (
-        subst (λ b. MatchBool b (IsNone (refusal s.world request) × Excuse t s e request reply) (reply ≡ (answer s.world request).1)) (sym plain) (ap (λ (a : World × Reply). a.1) (sym answers)),
-        refl,
-        subst (λ b. MatchBool b ((n : ℕ) × Places s e (take n (parked_spots t s request))) (MatchBool (is_some (refusal s.world request)) (e.placed ≡ []) (Places s e (spots t s request)))) (sym plain)
-            (subst (λ o. MatchBool (is_some o) (e.placed ≡ []) (Places s e (spots t s request))) (sym refuses) refl),
-      );
-      left = λ i. record {
-        world = (ap (λ (a : World × Reply). a.0) (sym answers) ∙ ap (λ b. cond b s.world (answer s.world request).0) (sym plain)) i;
-        purse = s.purse;
-        layout = sym stays i;
-      };
-    }
-
-pub refused : (t : Terms) (s : State) (request : Request) (reply : Reply) (moves : MovesView) (moment : ℕ) → IsStill moves → refusal s.world request ≡ Some reply → is_excuse reply ≡ false → frame_bytes reply ≤ most_in_frame
-    → layout_asked t s.layout request reply ≡ s.layout → IsServed t s (still_entry moment request reply moves) s
-refused t s request reply moves moment still refuses plain fits stays =
-    subst (λ (e : Entry). IsServed t s e s) (sym (entry_is moment request reply moves still)) (refused_plain t s request reply moment refuses plain fits stays)
-
--- a request that is excused leaves all as it is, and moves nothing
-excused_plain : (t : Terms) (s : State) (request : Request) (reply : Reply) (moment : ℕ) → refusal s.world request ≡ None → is_excuse reply ≡ true → Excuse t s (plain_entry (Ask moment request) (Replied reply) []) request reply → frame_bytes reply ≤ most_in_frame
-    → layout_asked t s.layout request reply ≡ s.layout → IsServed t s (plain_entry (Ask moment request) (Replied reply) []) s
-excused_plain t s request reply moment refuses plain why fits stays =
-    let e : Entry = plain_entry (Ask moment request) (Replied reply) [] in
-    let some : (n : ℕ) × Places s e (take n (parked_spots t s request)) = (0, record { rows = refl; all = refl }) in
-    record {
-      answered = fits;
-      right = (
-        subst (λ b. MatchBool b (IsNone (refusal s.world request) × Excuse t s e request reply) (reply ≡ (answer s.world request).1)) (sym plain) (ap is_some refuses, why),
-        refl,
-        subst (λ b. MatchBool b ((n : ℕ) × Places s e (take n (parked_spots t s request))) (MatchBool (is_some (refusal s.world request)) (e.placed ≡ []) (Places s e (spots t s request)))) (sym plain) some,
-      );
-      left = λ i. record {
-        world = ap (λ b. cond b s.world (answer s.world request).0) (sym plain) i;
-        purse = s.purse;
-        layout = sym stays i;
-      };
-    }
-
-pub excused : (t : Terms) (s : State) (request : Request) (reply : Reply) (moves : MovesView) (moment : ℕ) → IsStill moves → refusal s.world request ≡ None → is_excuse reply ≡ true → Excuse t s (plain_entry (Ask moment request) (Replied reply) []) request reply → frame_bytes reply ≤ most_in_frame
-    → layout_asked t s.layout request reply ≡ s.layout → IsServed t s (still_entry moment request reply moves) s
-excused t s request reply moves moment still refuses plain why fits stays =
-    subst (λ (e : Entry). IsServed t s e s) (sym (entry_is moment request reply moves still)) (excused_plain t s request reply moment refuses plain why fits stays)
-
--- a request that is done without placing a block
-done_plain : (t : Terms) (s : State) (request : Request) (reply : Reply) (moment : ℕ) (w : World) → refusal s.world request ≡ None → is_excuse reply ≡ false → answer s.world request ≡ (w, reply) → frame_bytes reply ≤ most_in_frame → spots t s request ≡ []
-    → IsServed t s (plain_entry (Ask moment request) (Replied reply) []) (record { world = w; purse = s.purse; layout = layout_asked t s.layout request reply })
-done_plain t s request reply moment w refuses plain answers fits none =
-    let e : Entry = plain_entry (Ask moment request) (Replied reply) [] in
-    let nothing : Places s e [] = record { rows = refl; all = refl } in
-    record {
-      answered = fits;
-      right = (
-        subst (λ b. MatchBool b (IsNone (refusal s.world request) × Excuse t s e request reply) (reply ≡ (answer s.world request).1)) (sym plain) (ap (λ (a : World × Reply). a.1) (sym answers)),
-        refl,
-        subst (λ b. MatchBool b ((n : ℕ) × Places s e (take n (parked_spots t s request))) (MatchBool (is_some (refusal s.world request)) (e.placed ≡ []) (Places s e (spots t s request)))) (sym plain)
-            (subst (λ o. MatchBool (is_some o) (e.placed ≡ []) (Places s e (spots t s request))) (sym refuses) (subst (λ xs. Places s e xs) (sym none) nothing)),
-      );
-      left = λ i. record {
-        world = (ap (λ (a : World × Reply). a.0) (sym answers) ∙ ap (λ b. cond b s.world (answer s.world request).0) (sym plain)) i;
-        purse = s.purse;
-        layout = layout_asked t s.layout request reply;
-      };
-    }
-
-pub done : (t : Terms) (s : State) (request : Request) (reply : Reply) (moves : MovesView) (moment : ℕ) (w : World) → IsStill moves → refusal s.world request ≡ None → is_excuse reply ≡ false → answer s.world request ≡ (w, reply) → frame_bytes reply ≤ most_in_frame → spots t s request ≡ []
-    → IsServed t s (still_entry moment request reply moves) (record { world = w; purse = s.purse; layout = layout_asked t s.layout request reply })
-done t s request reply moves moment w still refuses plain answers fits none =
-    subst (λ (e : Entry). IsServed t s e (record { world = w; purse = s.purse; layout = layout_asked t s.layout request reply })) (sym (entry_is moment request reply moves still))
-    (done_plain t s request reply moment w refuses plain answers fits none)
-
--- a request that is answered in a state is a step of the state before its moment was taken
-pub asked : (old : TenantView) (names : List (List ℕ × Named)) (home : HomeView) (before moment now : ℕ) (request : Request) (reply : Reply) (taken new : TenantView) → old.state ≡ told_state before names home → taken.terms ≡ old.terms → taken.state ≡ told_state now names home → now ≡ max before moment
-    → Serves taken request reply new → IsAskStep old moment request reply new
-asked old names home before moment now request reply taken new was terms is raises serves = record {
-  answered = serves.answered;
-  right = λ v e.
-      let told = told_is before names home v (sym was ∙ e) in
-      let at : State = at_event v (Ask moment request) in
-      let raised : state_of now names home ≡ at = ap (λ (m : ℕ). state_of m names home) raises ∙ ap (λ (s : State). at_event s (Ask moment request)) told.state in
-      let here : taken.state ≡ Some at = is ∙ told_some now names home told.none ∙ ap Some raised in
-      let served = serves.right moment at here in
-      let entry : Entry = entry_from (Ask moment request) (Replied reply) new.moves in
-      let right : IsOutcome taken.terms at entry (Ask moment request) (Replied reply) = served.2.right in (
-        subst (λ (t : Terms). IsRightEntry t v entry) terms right,
-        served.1 ∙ ap Some served.2.left ∙ ap (λ (t : Terms). Some (after_entry t v entry)) terms,
-      );
+pub sits_unmoved : {K : Type 0} (told : K → Told) (old new : TenantView K) (s : State) → IsUnmoved told old new → Sits s old → Sits s new
+sits_unmoved told old new s same sits = record {
+  in_order = same.strays ∙ sits.in_order;
+  moment = sits.moment ∙ sym same.moment;
+  names = sits.names ∙ ap (seen_by named_outline) (sym same.names);
+  purse = sits.purse ∙ sym same.purse;
+  layout = sits.layout ∙ ap (seen_by (λ (n : Named). kept_of n.content)) (sym same.names);
 }
 
-abbrev pub home_terms : HomeView → Terms
-home_terms home = record { slices = home.slices; size = home.size }
+pub lies_unmoved : {K : Type 0} (told : K → Told) (old new : TenantView K) (s : State) → IsUnmoved told old new → Lies (told old.home.shelf) s old → Lies (told new.home.shelf) s new
+lies_unmoved told old new s same lies = record {
+  blocks = lies.blocks;
+  held = subst (λ t. Holds lies.blocks t new.home.user new.home.seats.blocks) (sym same.told_is)
+      (subst (λ u. Holds lies.blocks (told old.home.shelf) u new.home.seats.blocks) (sym same.user)
+      (subst (λ (bs : Blocks). Holds lies.blocks (told old.home.shelf) old.home.user bs) (sym same.blocks) lies.held));
+  names = lies.names ∙ ap (seen_by (node_in lies.blocks)) (sym same.names);
+}
 
--- one step from these fields is one more entry of the history
-pub grown : (moment : ℕ) (names : List (List ℕ × Named)) (home : HomeView) (old : TenantView) (event : Event) (outcome : Outcome) (new : TenantView) → home_terms home ≡ old.terms → told_state moment names home ≡ old.state
-    → new.terms ≡ home_terms home → IsStep (home_terms home) (told_state moment names home) (entry_from event outcome new.moves) new.state → (h : List Entry) → StandsForHistory old.terms old.state 0 h → StandsForHistory new.terms new.state 0 (h ++ entry_from event outcome new.moves ∷ [])
-grown moment names home old event outcome new same_terms same_state terms step h st =
-    let e : Entry = entry_from event outcome new.moves in
-    let before : StandsForHistory (home_terms home) (told_state moment names home) 0 h = subst (λ (t : Terms). StandsForHistory t (told_state moment names home) 0 h) (sym same_terms) (subst (λ (s : Option State). StandsForHistory old.terms s 0 h) (sym same_state) st) in
-    let more : StandsForHistory (home_terms home) new.state 0 (h ++ e ∷ []) = stands_more (home_terms home) (told_state moment names home) new.state 0 0 h e before (le_refl 0) (le_refl 0) (le_refl 0) step in
-    subst (λ (t : Terms). StandsForHistory t new.state 0 (h ++ e ∷ [])) (sym terms) more
+-- a request that moves nothing leaves the purse, and what it leaves of the rest
+after_still : (t : Terms) (s : State) (moment : ℕ) (request : Request) (reply : Reply) (moves : MovesView) (before after : ℕ) (w : World) (layout : Layout) → IsStill moves → world_after s.world (Ask moment request) (Replied reply) ≡ w → layout_asked t s.layout request reply ≡ layout
+    → after_moment t s (entry_from (Ask moment request) (Replied reply) moves before after) ≡ record { world = w; purse = s.purse; layout = layout }
+after_still t s moment request reply moves before after w layout still world kept i = record {
+  world = world i;
+  purse = after_placed (layout_asked t s.layout request reply) (after_freed s.purse (still.freed i)) (still.placed i);
+  layout = kept i;
+}
 
--- A request of a tenant that has these names and this home, whose moment was taken, and what it leaves.
-module _ (moment : ℕ) (names : List (List ℕ × Named)) (home : HomeView) (v : TenantView) (was : v.state ≡ told_state moment names home) (new : TenantView) (still : IsStill new.moves) (stays_here : KeepsHolding v new) (request : Request) (reply : Reply) (fits : frame_bytes reply ≤ most_in_frame) where
-  abbrev at_hand : State
-  at_hand = state_of moment names home
+none_holds : (purse : Purse) → filter (λ (e : ℕ × Held). false) purse ≡ []
+none_holds [] = refl
+none_holds (e ∷ purse) = none_holds purse
 
-  -- a refusal changes nothing
-  pub serves_refused : new.state ≡ v.state → refusal at_hand.world request ≡ Some reply → is_excuse reply ≡ false → layout_asked v.terms at_hand.layout request reply ≡ at_hand.layout → Serves v request reply new
-  serves_refused same refuses plain stays = record {
-    stays = stays_here;
-    answered = fits;
-    right = λ at s e.
-        let told = told_is moment names home s (sym was ∙ e) in
-        subst (λ (s : State). v.state ≡ Some s → (u : State) × (new.state ≡ Some u) × IsServed v.terms s (still_entry at request reply new.moves) u) told.state
-        (λ is. (at_hand, same ∙ is, refused v.terms at_hand request reply new.moves at still refuses plain fits stays)) e;
+-- a request that frees nothing
+pub none_freed : (purse : Purse) (freed : List (ℕ × ℕ)) → freed ≡ [] → freed ≡ slices_of purse []
+none_freed purse freed none = none ∙ ap (map (λ (x : ℕ × Held). (x.0, x.1.number))) (sym (none_holds purse))
+
+-- it moves slices as a request may
+still_moves : (purse : Purse) (e : Entry) → e.freed ≡ [] → e.placed ≡ [] → MovesSlices purse e
+still_moves purse e freed placed = record {
+  blocks = [];
+  spots = [];
+  freed = none_freed purse e.freed freed;
+  placed = placed;
+}
+
+-- the reply and the placements of a request that the world refuses
+pub refused_reply : (t : Terms) (s : State) (e : Entry) (request : Request) (reply : Reply) → refusal s.world request ≡ Some reply → is_excuse reply ≡ false → IsReply t s e request reply
+refused_reply t s e request reply refuses plain =
+    subst (λ b. MatchBool b (IsNone (refusal s.world request) × Excuse t s e request reply) (reply ≡ (answer s.world request).1)) (sym plain) (ap (λ (a : World × Reply). a.1) (sym (answer-refused s.world request reply refuses)))
+
+refused_placed : (t : Terms) (s : State) (e : Entry) (request : Request) (reply : Reply) → refusal s.world request ≡ Some reply → is_excuse reply ≡ false → e.placed ≡ [] → IsPlaced t s e request reply
+refused_placed t s e request reply refuses plain placed =
+    subst (λ b. MatchBool b ((n : ℕ) × Places s e (take n (parked_spots t s request))) (MatchBool (is_some (refusal s.world request)) (e.placed ≡ []) (Places s e (spots t s request)))) (sym plain)
+    (subst (λ o. MatchBool (is_some o) (e.placed ≡ []) (Places s e (spots t s request))) (sym refuses) placed)
+
+pub no_places : (s : State) (e : Entry) → e.placed ≡ [] → Places s e []
+no_places s e placed = record { rows = placed; all = ap length placed }
+
+-- and of one that is excused
+pub excused_reply : (t : Terms) (s : State) (e : Entry) (request : Request) (reply : Reply) → refusal s.world request ≡ None → is_excuse reply ≡ true → Excuse t s e request reply → IsReply t s e request reply
+excused_reply t s e request reply refuses plain why =
+    subst (λ b. MatchBool b (IsNone (refusal s.world request) × Excuse t s e request reply) (reply ≡ (answer s.world request).1)) (sym plain) (ap is_some refuses, why)
+
+pub excused_placed : (t : Terms) (s : State) (e : Entry) (request : Request) (reply : Reply) → is_excuse reply ≡ true → e.placed ≡ [] → IsPlaced t s e request reply
+excused_placed t s e request reply plain placed =
+    let some : (n : ℕ) × Places s e (take n (parked_spots t s request)) = (0, no_places s e placed) in
+    subst (λ b. MatchBool b ((n : ℕ) × Places s e (take n (parked_spots t s request))) (MatchBool (is_some (refusal s.world request)) (e.placed ≡ []) (Places s e (spots t s request)))) (sym plain) some
+
+-- and of one that is done without placing a block
+pub done_reply : (t : Terms) (s : State) (e : Entry) (request : Request) (reply : Reply) (w : World) → answer s.world request ≡ (w, reply) → is_excuse reply ≡ false → IsReply t s e request reply
+done_reply t s e request reply w answers plain =
+    subst (λ b. MatchBool b (IsNone (refusal s.world request) × Excuse t s e request reply) (reply ≡ (answer s.world request).1)) (sym plain) (ap (λ (a : World × Reply). a.1) (sym answers))
+
+pub done_placed : (t : Terms) (s : State) (e : Entry) (request : Request) (reply : Reply) → refusal s.world request ≡ None → is_excuse reply ≡ false → e.placed ≡ [] → spots t s request ≡ [] → IsPlaced t s e request reply
+done_placed t s e request reply refuses plain placed none =
+    subst (λ b. MatchBool b ((n : ℕ) × Places s e (take n (parked_spots t s request))) (MatchBool (is_some (refusal s.world request)) (e.placed ≡ []) (Places s e (spots t s request)))) (sym plain)
+    (subst (λ o. MatchBool (is_some o) (e.placed ≡ []) (Places s e (spots t s request))) (sym refuses) (subst (λ xs. Places s e xs) (sym none) (no_places s e placed)))
+
+-- what the world is after a reply
+pub world_refused : (w : World) (moment : ℕ) (request : Request) (reply : Reply) → refusal w request ≡ Some reply → is_excuse reply ≡ false → world_after w (Ask moment request) (Replied reply) ≡ w
+world_refused w moment request reply refuses plain = ap (λ b. cond b w (answer w request).0) plain ∙ ap (λ (a : World × Reply). a.0) (answer-refused w request reply refuses)
+
+world_excused : (w : World) (moment : ℕ) (request : Request) (reply : Reply) → is_excuse reply ≡ true → world_after w (Ask moment request) (Replied reply) ≡ w
+world_excused w moment request reply plain = ap (λ b. cond b w (answer w request).0) plain
+
+pub world_done : (w now : World) (moment : ℕ) (request : Request) (reply : Reply) → answer w request ≡ (now, reply) → is_excuse reply ≡ false → world_after w (Ask moment request) (Replied reply) ≡ now
+world_done w now moment request reply answers plain = ap (λ b. cond b w (answer w request).0) plain ∙ ap (λ (a : World × Reply). a.0) answers
+
+-- what a request leaves of a state that the fields show, where it moves nothing
+pub record Leaves {K : Type 0} (told : K → Told) (faults : K → Faults) (old : TenantView K) (request : Request) (reply : Reply) (new : TenantView K) (s : State) : Type 0 where
+  pub world : World
+  pub layout : Layout
+  pub world_is : (moment : ℕ) → world_after s.world (Ask moment request) (Replied reply) ≡ world
+  pub layout_is : layout_asked old.terms s.layout request reply ≡ layout
+  pub sits : Sits (record { world = world; purse = s.purse; layout = layout }) new
+  pub lies : Lies (told old.home.shelf) s old → Lies (told new.home.shelf) (record { world = world; purse = s.purse; layout = layout }) new
+  pub right : IsTrue (is_sure (told old.home.shelf)) → Lies (told old.home.shelf) s old → (e : Entry) → e.freed ≡ [] → e.placed ≡ [] → e.before ≡ count_in faults old → e.after ≡ count_in faults new
+      → IsReply old.terms s e request reply × IsFreed s e request reply × IsPlaced old.terms s e request reply
+
+module _ {K : Type 0} (told : K → Told) (faults : K → Faults) (old new : TenantView K) (still : IsStill new.moves) (keeps : Keeps told faults old new) (request : Request) (reply : Reply) (fits : frame_bytes reply ≤ most_in_frame) (caused : IsCaused (Replied reply) (count_in faults old) (count_in faults new)) where
+  pub serves_left : ((s : State) → Sits s old → Leaves told faults old request reply new s) → NeverDamaged told old (Replied reply) → ((moment : ℕ) → ExcusesVoid told old (Ask moment request) (Replied reply)) → Serves told faults old request reply new
+  serves_left leaves telling void = record {
+    keeps = keeps;
+    answered = λ moment. fits;
+    caused = caused;
+    right = λ moment s sits.
+        let left = leaves s sits in
+        let e : Entry = entry_over faults (Ask moment request) (Replied reply) old new in
+        let after : after_moment old.terms s e ≡ record { world = left.world; purse = s.purse; layout = left.layout } = after_still old.terms s moment request reply new.moves (count_in faults old) (count_in faults new) left.world left.layout still (left.world_is moment) left.layout_is in
+        record {
+          answered = fits;
+          caused = caused;
+          moved = still_moves s.purse e still.freed still.placed;
+          sits = subst (λ (u : State). Sits u new) (sym after) left.sits;
+          right = λ sure lies. (left.right sure lies e still.freed still.placed refl refl, subst (λ (u : State). Lies (told new.home.shelf) u new) (sym after) (left.lies lies));
+        };
+    telling = telling;
+    void = void;
   }
 
-  -- and neither does an excuse
-  pub serves_excused : new.state ≡ v.state → refusal at_hand.world request ≡ None → is_excuse reply ≡ true → (home.strays ≡ 0 → (e : Entry) → Excuse v.terms at_hand e request reply) → layout_asked v.terms at_hand.layout request reply ≡ at_hand.layout → Serves v request reply new
-  serves_excused same refuses plain why stays = record {
-    stays = stays_here;
-    answered = fits;
-    right = λ at s e.
-        let told = told_is moment names home s (sym was ∙ e) in
-        subst (λ (s : State). v.state ≡ Some s → (u : State) × (new.state ≡ Some u) × IsServed v.terms s (still_entry at request reply new.moves) u) told.state
-        (λ is. (at_hand, same ∙ is, excused v.terms at_hand request reply new.moves at still refuses plain (why told.none (plain_entry (Ask at request) (Replied reply) [])) fits stays)) e;
-  }
+  module _ (same : IsUnmoved told old new) where
+    -- a refusal changes nothing
+    pub serves_refused : ((s : State) → Sits s old → refusal s.world request ≡ Some reply) → is_excuse reply ≡ false → ((t : Terms) (layout : Layout) → layout_asked t layout request reply ≡ layout)
+        → ((s : State) (e : Entry) → e.freed ≡ [] → IsFreed s e request reply) → IsUndamaged (Replied reply) → Serves told faults old request reply new
+    serves_refused refuses plain kept freed undamaged = serves_left
+        (λ s sits. record {
+          world = s.world;
+          layout = s.layout;
+          world_is = λ moment. world_refused s.world moment request reply (refuses s sits) plain;
+          layout_is = kept old.terms s.layout;
+          sits = sits_unmoved told old new s same sits;
+          lies = lies_unmoved told old new s same;
+          right = λ sure lies e none nowhere before after. (refused_reply old.terms s e request reply (refuses s sits) plain, freed s e none, refused_placed old.terms s e request reply (refuses s sits) plain nowhere);
+        })
+        (λ tells s lies. undamaged)
+        (λ moment is s sits unrefused needs. absurd (contrary (refusal s.world request) (refuses s sits) unrefused))
+      where
+        contrary : (o : Option Reply) → o ≡ Some reply → IsNone o → ⊥
+        contrary None e none = cc
+        contrary (Some r) e none = cc
 
-  -- what is done without placing a block leaves this world
-  pub serves_done : (w : World) → refusal at_hand.world request ≡ None → is_excuse reply ≡ false → answer at_hand.world request ≡ (w, reply) → spots v.terms at_hand request ≡ []
-      → (home.strays ≡ 0 → new.state ≡ Some (record { world = w; purse = home.purse; layout = layout_asked v.terms at_hand.layout request reply })) → Serves v request reply new
-  serves_done w refuses plain answers none becomes = record {
-    stays = stays_here;
-    answered = fits;
-    right = λ at s e.
-        let told = told_is moment names home s (sym was ∙ e) in
-        subst (λ (s : State). (u : State) × (new.state ≡ Some u) × IsServed v.terms s (still_entry at request reply new.moves) u) told.state
-        (_, becomes told.none, done v.terms at_hand request reply new.moves at w still refuses plain answers fits none);
-  }
+    -- and neither does an excuse
+    pub serves_excused : ((s : State) → Sits s old → refusal s.world request ≡ None) → is_excuse reply ≡ true → ((t : Terms) (layout : Layout) → layout_asked t layout request reply ≡ layout)
+        → ((s : State) (e : Entry) → e.freed ≡ [] → IsFreed s e request reply)
+        → ((s : State) → Sits s old → Lies (told old.home.shelf) s old → (e : Entry) → e.before ≡ count_in faults old → e.after ≡ count_in faults new → Excuse old.terms s e request reply)
+        → NeverDamaged told old (Replied reply) → Serves told faults old request reply new
+    serves_excused refuses plain kept freed why telling = serves_left
+        (λ s sits. record {
+          world = s.world;
+          layout = s.layout;
+          world_is = λ moment. world_excused s.world moment request reply plain;
+          layout_is = kept old.terms s.layout;
+          sits = sits_unmoved told old new s same sits;
+          lies = lies_unmoved told old new s same;
+          right = λ sure lies e none nowhere before after. (excused_reply old.terms s e request reply (refuses s sits) plain (why s sits lies e before after), freed s e none, excused_placed old.terms s e request reply plain nowhere);
+        })
+        telling
+        (λ moment is s sits unrefused needs. plain)
 
--- what a look-up of a name says of the world
-pub node_found : (moment : ℕ) (names : List (List ℕ × Named)) (home : HomeView) (path : List ℕ) (named : Named) → lookup (is_at (bytes_cmp path)) names ≡ Some named → node_at (state_of moment names home).world path ≡ Some (named_node home named)
-node_found moment names home path named e = find-seen_by (named_node home) path names ∙ ap (option_map (named_node home)) e
-
-pub node_absent : (moment : ℕ) (names : List (List ℕ × Named)) (home : HomeView) (path : List ℕ) → lookup (is_at (bytes_cmp path)) names ≡ None → node_at (state_of moment names home).world path ≡ None
-node_absent moment names home path e = find-seen_by (named_node home) path names ∙ ap (option_map (named_node home)) e
-
--- what is noted of moves is no more than the view says
-pub still_in : (i : Inside) {v : TenantView} → tenant_view i ≡ v → IsStill v.moves → IsStill i.moves
-still_in i is still = subst (λ (v : TenantView). IsStill v.moves) (sym is) still
-
--- what changes of a tenant's fields is in its state and its moves
-pub stays_in : (i : Inside) {v : TenantView} → tenant_view i ≡ v → (state : Option State) (moves : MovesView)
-    → (let was = tenant_view i in let now : TenantView = record was { state = state; moves = moves } in now) ≡ record v { state = state; moves = moves }
-stays_in i is state moves = ap (λ (v : TenantView). record v { state = state; moves = moves }) is
-
--- also where the home changes, and whose it is, its sizes and its slices stay
-pub stays_with : (i : Inside) {v : TenantView} → tenant_view i ≡ v → (home : HomeView) → home.user ≡ i.home.user → home.size ≡ i.home.size → home.slices ≡ i.home.slices → granted_of home ≡ granted_of i.home → (state : Option State) (moves : MovesView)
-    → ◌≡◌ {A = TenantView} (record { user = home.user; terms = record { slices = home.slices; size = home.size }; state = state; moves = moves; held = granted_of home }) (record v { state = state; moves = moves })
-stays_with i is home user size slices granted state moves =
-    (λ k. record { user = user k; terms = record { slices = slices k; size = size k }; state = state; moves = moves; held = granted k }) ∙ stays_in i is state moves
+    -- and a request that is done and changes nothing
+    pub serves_same : ((s : State) → Sits s old → refusal s.world request ≡ None) → is_excuse reply ≡ false → ((t : Terms) (layout : Layout) → layout_asked t layout request reply ≡ layout)
+        → ((s : State) (moment : ℕ) → Sits s old → world_after s.world (Ask moment request) (Replied reply) ≡ s.world)
+        → ((s : State) → Sits s old → Lies (told old.home.shelf) s old → answer s.world request ≡ (s.world, reply)) → ((s : State) (e : Entry) → e.freed ≡ [] → IsFreed s e request reply)
+        → ((s : State) → spots old.terms s request ≡ []) → IsUndamaged (Replied reply) → ((moment : ℕ) → ExcusesVoid told old (Ask moment request) (Replied reply)) → Serves told faults old request reply new
+    serves_same refuses plain kept stays answers freed none undamaged void = serves_left
+        (λ s sits. record {
+          world = s.world;
+          layout = s.layout;
+          world_is = λ moment. stays s moment sits;
+          layout_is = kept old.terms s.layout;
+          sits = sits_unmoved told old new s same sits;
+          lies = lies_unmoved told old new s same;
+          right = λ sure lies e bare nowhere before after.
+              (done_reply old.terms s e request reply s.world (answers s sits lies) plain, freed s e bare, done_placed old.terms s e request reply (refuses s sits) plain nowhere (none s));
+        })
+        (λ tells s lies. undamaged)
+        void
 
 -- where nothing moved, the moves are in order
 pub still_order : (moves : MovesView) → IsStill moves → AreInOrder moves

@@ -1,43 +1,59 @@
 -- What one request and one slice do to a tenant.
-use Rattle.std.specs.Prelude.{◌≡◌, ℕ, ◌≤◌, [], Some}
+use Rattle.std.specs.Prelude.{◌≡◌, ℕ, ◌≤◌, []}
+use Rattle.far_io.specs.Faults.{Faults, Follows}
+use Rattle.shelf_link.specs.Told.{Told, IsSameKind, is_sure}
 use Rattle.slice_seq.specs.Slice.{SliceView}
 use Rattle.far_words.specs.Moves.{MovesView}
 use Rattle.far_words.specs.declared.request.Request.{Request}
 use Rattle.far_words.specs.declared.request.Reply.{Reply}
 use Rattle.far_words.specs.declared.request.Outcome.{Outcome}
 use Rattle.far_words.specs.declared.request.Outcome.TheVariants.{Reply as Replied}
-use Rattle.far_history.specs.Entries.{Ask, Grant}
+use Rattle.far_history.specs.Entries.{Event, Ask, Grant, Entry}
 use Rattle.far_history.specs.Histories.{State}
-use Rattle.far_history.specs.Standing.{frame_bytes, most_in_frame, IsStep, IsServed}
-use Rattle.tenant_world.specs.Views.{TenantView, entry_from}
+use Rattle.far_history.specs.Standing.{FitsFrame, IsCaused, IsStep, IsServed}
+use Rattle.tenant_world.specs.Views.{TenantView, held_by, count_in, entry_from}
+use Rattle.tenant_world.specs.Standing.{Sits, Lies}
+use Rattle.tenant_world.specs.Telling.{NeverDamaged, ExcusesVoid}
 
 -- no move is noted
 pub record IsStill (moves : MovesView) : Type 0 where
   pub freed : moves.freed ≡ []
   pub placed : moves.placed ≡ []
 
--- whose tenant it is and its terms stay
-abbrev pub IsSameUser : TenantView → TenantView → Type 0
-IsSameUser old new = new ≡ record old { state = new.state; moves = new.moves; held = new.held }
+-- the entry of what a tenant was asked
+abbrev pub entry_over : {K : Type 0} → (K → Faults) → Event → Outcome → TenantView K → TenantView K → Entry
+entry_over faults event outcome old new =
+    entry_from event outcome new.moves (count_in faults old) (count_in faults new)
 
--- and so does how many slices are held
-abbrev pub KeepsHolding : TenantView → TenantView → Type 0
-KeepsHolding old new = new ≡ record old { state = new.state; moves = new.moves }
+-- what holds of a tenant over any request, whatever it is answered
+pub record Keeps {K : Type 0} (told : K → Told) (faults : K → Faults) (old new : TenantView K) : Type 0 where
+  pub terms : new.terms ≡ old.terms
+  pub held : held_by new ≡ held_by old
+  pub kind : IsSameKind (told old.home.shelf) (told new.home.shelf)
+  pub counts : Follows (faults old.home.shelf) (faults new.home.shelf)
 
--- a request, whose moment was taken whatever it was, is answered, and as the history's definitions say while there is a
--- state. Nothing of the tenant changes besides
-pub record Serves (old : TenantView) (request : Request) (reply : Reply) (new : TenantView) : Type 0 where
-  pub stays : KeepsHolding old new
-  pub answered : frame_bytes reply ≤ most_in_frame
-  pub right : (moment : ℕ) (s : State) → old.state ≡ Some s
-      → (u : State) × (new.state ≡ Some u) × IsServed old.terms s (entry_from (Ask moment request) (Replied reply) new.moves) u
+-- A request, whose moment was taken whatever it was, is answered as the history's definitions say in each state that
+-- the fields show, and where the store is sure in each whose contents are held.
+pub record Serves {K : Type 0} (told : K → Told) (faults : K → Faults) (old : TenantView K) (request : Request)
+    (reply : Reply) (new : TenantView K) : Type 0 where
+  pub keeps : Keeps told faults old new
+  pub answered : (moment : ℕ) → FitsFrame (Ask moment request) (Replied reply)
+  pub caused : IsCaused (Replied reply) (count_in faults old) (count_in faults new)
+  pub right : (moment : ℕ) (s : State) → Sits s old
+      → IsServed old.terms (is_sure (told old.home.shelf)) s
+      (entry_over faults (Ask moment request) (Replied reply) old new)
+      (λ s. Lies (told old.home.shelf) s old) (λ s. Sits s new) (λ s. Lies (told new.home.shelf) s new)
+  pub telling : NeverDamaged told old (Replied reply)
+  pub void : (moment : ℕ) → ExcusesVoid told old (Ask moment request) (Replied reply)
 
--- a request at a moment is one step of the user
-abbrev pub IsAskStep : TenantView → ℕ → Request → Reply → TenantView → Type 0
-IsAskStep old moment request reply new =
-    IsStep old.terms old.state (entry_from (Ask moment request) (Replied reply) new.moves) new.state
+-- an event is one step of the user
+abbrev pub IsTenantStep : {K : Type 0}
+    → (K → Told) → (K → Faults) → TenantView K → Event → Outcome → TenantView K → Type 0
+IsTenantStep told faults old event outcome new =
+    IsStep old.terms (is_sure (told old.home.shelf)) (is_sure (told new.home.shelf))
+    (λ s. Sits s old) (λ s. Lies (told old.home.shelf) s old) (λ s. Sits s new) (λ s. Lies (told new.home.shelf) s new)
+    (entry_over faults event outcome old new)
 
--- and so is a slice that comes
-abbrev pub IsGrantStep : TenantView → SliceView → Outcome → TenantView → Type 0
-IsGrantStep old slice outcome new =
-    IsStep old.terms old.state (entry_from (Grant slice.id slice.number slice.size) outcome new.moves) new.state
+-- the event of a slice that comes
+abbrev pub coming : SliceView → Event
+coming slice = Grant slice.id slice.number slice.size

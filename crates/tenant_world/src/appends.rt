@@ -1,67 +1,37 @@
 //! Bytes at the end of a file.
-ghost use Rattle.std.specs.Prelude.{◌≡◌, ◌+◌, ◌^◌, ◌<◌, ◌≤◌, ◌++◌, length, vec_len, vec_capacity};
+ghost use Rattle.std.specs.Prelude.{◌≡◌, ◌≤◌, length};
 ghost use Rattle.far_words.specs.declared.request.TheConstants.{MOST_IN_REQUEST};
-ghost use Rattle.block_home.specs.Homes.{room_of};
 ghost use Rattle.block_file.specs.Files.{IsSound};
-ghost use Rattle.tenant_world.specs.Contents.{IsSoundContent, file_of};
-ghost use Rattle.tenant_world.specs.Appending.{IsAppended, end_reply};
-ghost use Rattle.tenant_world.specs.Rows.{rows_of};
+ghost use Rattle.tenant_world.specs.Contents.{IsSoundContent};
+ghost use Rattle.tenant_world.specs.Keeping.{IsReady, KeepsStore};
+ghost use Rattle.tenant_world.specs.Appending.{IsAppended};
 
 use crate::names::Content;
+use crate::rows::{push_rows, reply_of};
 use block_file::FileBody;
-use block_home::{Home, HomeEnd, PlacedBlock};
-use far_words::{MOST_IN_FILE, Moves, Path, PlacedRow, Reply};
+use block_home::Home;
+use far_words::{MOST_IN_FILE, Moves, Path, Reply};
+use shelf_link::Shelf;
 use std::alloc::Global;
 
-/// What a home or a file refuses, as a reply.
-fn reply_of(end: HomeEnd) -> Reply
-    ensures { result ≡ end_reply end }
-{
-    match end {
-        HomeEnd::Exhausted {
-            need,
-            used,
-            granted,
-        } => Reply::Exhausted {
-            need,
-            used,
-            granted,
-        },
-        HomeEnd::NoMemory => Reply::NoMemory,
-    }
-}
-
-/// Adds the rows of a file's new blocks, whose first has the index `first`.
-fn push_rows(rows: &mut Vec<PlacedRow>, placed: &[PlacedBlock], path: &Path, first: u64)
-    requires room { vec_len rows.old + length placed.now ≤ vec_capacity rows.old }
-    requires fits { first + length placed.now < 2 ^ 64 }
-    ensures { rows.new.items ≡ rows.old.items ++ rows_of path.now first placed.now }
-{
-    for (i, block) in placed.iter().enumerate() {
-        rows.push_reserved(PlacedRow {
-            slice: block.slice,
-            number: block.number,
-            path: path.copy(),
-            index: first + i as u64,
-        });
-    }
-}
-
-/// Puts bytes at the end of a file, and notes the rows of its new blocks. The slices are counted once, and the rows are
-/// reserved before anything is changed.
-fn append_file(
+/// Puts bytes at the end of a file, and notes the rows of the blocks that came into slices. The slices are counted once,
+/// and the rows are reserved before anything is changed.
+fn append_file<K: Shelf>(
     alloc: Global,
     file: &mut FileBody,
-    home: &mut Home,
+    home: &mut Home<K>,
     moves: &mut Moves,
     path: &Path,
     bytes: &[u8],
 ) -> Reply
-    requires sound { IsSound home.old file.old }
+    requires sound { IsSound home.old.seats file.old }
     requires short { length bytes.now ≤ MOST_IN_REQUEST }
-    requires noted { room_of home.old ≤ home.old.moves.most }
-    ensures { IsAppended (record { file = file.old; home = home.old; moves = moves.old }) path.now bytes.now result
-        (record { file = file.new; home = home.new; moves = moves.new }) }
+    requires ready { IsReady home.old moves.old }
+    ensures store { KeepsStore K.told K.faults home.old home.new }
+    ensures appended { IsAppended K.told K.faults
+        (record { content = Content.File file.old; home = home.old; moves = moves.old })
+        path.now bytes.now result
+        (record { content = Content.File file.new; home = home.new; moves = moves.new }) }
 {
     home.clear_moves();
     let old = file.length();
@@ -78,10 +48,18 @@ fn append_file(
     let Ok(mut rows) = Vec::with_capacity(alloc, need as usize) else {
         return Reply::NoMemory;
     };
-    let first = old.div_ceil(u64::from(home.size()));
+    let size = u64::from(home.size());
     match file.append(home, bytes) {
         Ok(length) => {
-            push_rows(&mut rows, home.moves().placed(), path, first);
+            let count = length.div_ceil(size);
+            push_rows(
+                &mut rows,
+                home.moves().placed(),
+                path,
+                file,
+                old / size,
+                count,
+            );
             moves.set_placed(rows);
             Reply::Number(length)
         }
@@ -90,20 +68,21 @@ fn append_file(
 }
 
 /// Puts bytes at the end of a content that is a file.
-pub fn append_content(
+pub fn append_content<K: Shelf>(
     alloc: Global,
     content: &mut Content,
-    home: &mut Home,
+    home: &mut Home<K>,
     moves: &mut Moves,
     path: &Path,
     bytes: &[u8],
 ) -> Reply
-    requires sound { IsSoundContent home.old content.old }
+    requires sound { IsSoundContent home.old.seats content.old }
     requires short { length bytes.now ≤ MOST_IN_REQUEST }
-    requires noted { room_of home.old ≤ home.old.moves.most }
-    ensures { IsAppended (record { file = file_of content.old; home = home.old; moves = moves.old })
+    requires ready { IsReady home.old moves.old }
+    ensures store { KeepsStore K.told K.faults home.old home.new }
+    ensures appended { IsAppended K.told K.faults (record { content = content.old; home = home.old; moves = moves.old })
         path.now bytes.now result
-        (record { file = file_of content.new; home = home.new; moves = moves.new }) }
+        (record { content = content.new; home = home.new; moves = moves.new }) }
 {
     match content {
         Content::File(file) => append_file(alloc, file, home, moves, path, bytes),

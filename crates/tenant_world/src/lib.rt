@@ -3,6 +3,8 @@
 
 mod appends;
 mod names;
+mod parks;
+mod rows;
 mod tenant;
 
 pub use tenant::{Tenant, TenantAsk, Told};

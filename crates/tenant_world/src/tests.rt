@@ -5,23 +5,31 @@ use super::{Tenant, TenantAsk, Told};
 use far_history::PlainWorld;
 use far_words::{Blob, Kind, Outcome, Path, PlacedRow, Reply, Request};
 use karma_rule::Shape;
+use shelf_link::{Shelf, ShelfMem};
 use slice_seq::Slice;
 use std::alloc::Global;
 use std::process::Abort;
 
-/// A tenant of one user that may hold `fair` slices of 64 bytes.
-fn tenant(rt: &impl Abort, alloc: Global, fair: u64) -> Tenant {
+mod stores;
+
+/// A store in memory, none of whose calls fails.
+fn memory(alloc: Global) -> ShelfMem {
+    ShelfMem::new(alloc, Vec::new(alloc))
+}
+
+/// A tenant of one user that may hold `fair` slices of 64 bytes, over a store.
+fn tenant<K: Shelf + Drop>(rt: &impl Abort, alloc: Global, fair: u64, shelf: K) -> Tenant<K> {
     let Ok(shape) = Shape::store(1, fair, fair, 0, 64) else {
         panic!(rt; "a shape")
     };
-    Tenant::new(alloc, 0, shape).expect(rt, "memory for a tenant")
+    Tenant::new(alloc, 0, shape, shelf).expect(rt, "memory for a tenant")
 }
 
 /// Grants a slice, compares its number, and says whether it was handed back.
-fn grant(
+fn grant<K: Shelf>(
     rt: &impl Abort,
     alloc: Global,
-    tenant: &mut Tenant,
+    tenant: &mut Tenant<K>,
     id: u32,
     size: u32,
     number: u64,
@@ -38,7 +46,7 @@ fn grant(
     }
 }
 
-fn ask(rt: &impl Abort, tenant: &mut Tenant, moment: u64, request: Request) -> Reply {
+fn ask<K: Shelf>(rt: &impl Abort, tenant: &mut Tenant<K>, moment: u64, request: Request) -> Reply {
     let Told { outcome, slice } = tenant.apply(TenantAsk::Ask { moment, request });
     if let Some(slice) = slice {
         slice.free();
@@ -84,6 +92,18 @@ fn length(rt: &impl Abort, name: &[u8]) -> Request {
     }
 }
 
+fn park(rt: &impl Abort, name: &[u8]) -> Request {
+    Request::Park {
+        path: path(rt, name),
+    }
+}
+
+fn load(rt: &impl Abort, name: &[u8]) -> Request {
+    Request::Load {
+        path: path(rt, name),
+    }
+}
+
 fn row(rt: &impl Abort, slice: u32, index: u64) -> PlacedRow {
     PlacedRow {
         slice,
@@ -94,9 +114,9 @@ fn row(rt: &impl Abort, slice: u32, index: u64) -> PlacedRow {
 }
 
 /// Asks at moment 5, and compares the reply and the rows of the blocks that were placed.
-fn expect(
+fn expect<K: Shelf>(
     rt: &impl Abort,
-    tenant: &mut Tenant,
+    tenant: &mut Tenant<K>,
     request: Request,
     reply: Reply,
     rows: &[PlacedRow],
@@ -117,7 +137,7 @@ fn exhausted(need: u64, used: u64, granted: u64) -> Reply {
 #[test]
 fn a_file_lies_in_slices(rt: HostRuntime) {
     let alloc = rt.alloc();
-    let mut tenant = tenant(&rt, alloc, 4);
+    let mut tenant = tenant(&rt, alloc, 4, memory(alloc));
     for id in 0..3 {
         assert!(rt; !grant(&rt, alloc, &mut tenant, id, 64, 1));
     }
@@ -148,10 +168,10 @@ fn a_file_lies_in_slices(rt: HostRuntime) {
 }
 
 /// Appends so many bytes, and compares the reply. So many blocks were placed.
-fn grow(
+fn grow<K: Shelf>(
     rt: &impl Abort,
     alloc: Global,
-    tenant: &mut Tenant,
+    tenant: &mut Tenant<K>,
     name: &[u8],
     count: usize,
     told: (Reply, usize),
@@ -165,7 +185,7 @@ fn grow(
 #[test]
 fn slices_run_out(rt: HostRuntime) {
     let alloc = rt.alloc();
-    let mut tenant = tenant(&rt, alloc, 2);
+    let mut tenant = tenant(&rt, alloc, 2, memory(alloc));
     assert!(rt; !grant(&rt, alloc, &mut tenant, 1, 64, 1));
     assert!(rt; !grant(&rt, alloc, &mut tenant, 0, 64, 1));
     assert!(rt; grant(&rt, alloc, &mut tenant, 1, 64, 0));
@@ -205,26 +225,66 @@ fn chosen(rt: &impl Abort, alloc: Global, seed: u64) -> Request {
     match (seed >> 60) % 8 {
         0 => make(rt, name, size),
         1 => length(rt, name),
-        2 | 3 | 4 => read(rt, name, (seed >> 50) % 1000, size as u32),
+        2 | 3 => read(rt, name, (seed >> 50) % 1000, size as u32),
+        4 => park(rt, name),
+        5 => load(rt, name),
         _ => append(rt, alloc, name, ((seed >> 52) % 250) as u8, size as usize),
     }
+}
+
+/// The content of three names, in bytes.
+fn content<K: Shelf>(rt: &impl Abort, tenant: &mut Tenant<K>) -> u64 {
+    let mut sum = 0u64;
+    for name in [b"a", b"b", b"c"] {
+        if let Reply::Number(count) = ask(rt, tenant, 600, length(rt, name)) {
+            sum = sum.saturating_add(count);
+        }
+    }
+    sum
+}
+
+/// 600 requests to a tenant with so many slices: each is answered as plain names and contents answer it, but for those
+/// that need more slices than there are. Says whether there was one.
+fn runs_beside<K: Shelf>(
+    rt: &impl Abort,
+    alloc: Global,
+    tenant: &mut Tenant<K>,
+    slices: u32,
+) -> bool {
+    for id in 0..slices {
+        assert!(rt; !grant(rt, alloc, tenant, id, 64, 1));
+    }
+    let mut world = PlainWorld::new(alloc);
+    let mut seed = 1;
+    let mut lacking = false;
+    for moment in 0..600 {
+        seed = next(seed);
+        let reply = ask(rt, tenant, moment, chosen(rt, alloc, seed));
+        if matches!(&reply, Reply::Exhausted { .. }) {
+            lacking = true;
+        } else {
+            let expected = world
+                .answer(moment, &chosen(rt, alloc, seed))
+                .expect(rt, "memory");
+            assert_eq!(rt; reply, expected);
+        }
+    }
+    lacking
 }
 
 /// A tenant with slices enough answers as plain names and contents do.
 #[test]
 fn answers_as_a_plain_world(rt: HostRuntime) {
     let alloc = rt.alloc();
-    let mut tenant = tenant(&rt, alloc, 1000);
-    for id in 0..1000 {
-        assert!(rt; !grant(&rt, alloc, &mut tenant, id, 64, 1));
-    }
-    let mut world = PlainWorld::new(alloc);
-    let mut seed = 1;
-    for moment in 0..600 {
-        seed = next(seed);
-        let request = chosen(&rt, alloc, seed);
-        let expected = world.answer(moment, &request).expect(&rt, "memory");
-        let reply = ask(&rt, &mut tenant, moment, request);
-        assert_eq!(rt; reply, expected);
-    }
+    let mut tenant = tenant(&rt, alloc, 1000, memory(alloc));
+    assert!(&rt; !runs_beside(&rt, alloc, &mut tenant, 1000));
+}
+
+/// And one whose content is more than its slices hold, or says that there are too few.
+#[test]
+fn answers_with_few_slices(rt: HostRuntime) {
+    let alloc = rt.alloc();
+    let mut tenant = tenant(&rt, alloc, 8, memory(alloc));
+    assert!(&rt; runs_beside(&rt, alloc, &mut tenant, 8));
+    assert!(&rt; content(&rt, &mut tenant) > 8 * 64);
 }

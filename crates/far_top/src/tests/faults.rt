@@ -1,21 +1,24 @@
 //! Which word or limit is told where words are bad, and which line and what is wrong with it where a line is.
 
-use crate::{read_words, run_told};
+use super::{memory, words_of};
+use crate::{read_words, run_told, shelf_count};
 use far_io::{MemSink, MemSource, Raw};
 use std::test::Fail;
 
 // Why a run over this input ended, for a person.
 fn why(rt: &HostRuntime, words: &str, input: &str) -> Result<String, Fail> {
     let alloc = rt.alloc();
-    let mut list = Vec::new(alloc);
-    for word in words.split(' ') {
-        list.push(String::from_str(alloc, word)?)?;
+    let list = words_of(rt, words)?;
+    let words = list.as_slice();
+    let shelves = memory(rt, 0, &[])?;
+    if shelves.len() != shelf_count(words) {
+        return Err(Fail::from("words that want no store"));
     }
     let bytes = Raw::from_slice(alloc, input.as_bytes())?;
     let mut source = MemSource::new(bytes, 4096, Vec::new(alloc));
     let mut sink = MemSink::new(alloc, Vec::new(alloc));
-    let why = run_told(alloc, list.as_slice(), &mut source, &mut sink);
-    Ok(format!(in alloc; "{why}")?)
+    let told = run_told(alloc, words, shelves, &mut source, &mut sink);
+    Ok(format!(in alloc; "{}", told.why)?)
 }
 
 #[test]

@@ -1,36 +1,51 @@
-use Rattle.std.proofs.Common.{◌≡◌, ◌≢◌, ◌<◌, is_some, take, get_or, sym, ap, ◌∙◌, arith, length-take}
-use Rattle.std.specs.Prelude.{All}
+use Rattle.std.proofs.Common.{◌≡◌, is_some, take, get_or, sym, ap, ◌∙◌, subst}
 use Rattle.std.specs.Ordering.{nat_cmp}
 use Rattle.std.specs.FinMap.{find}
-use Rattle.std.proofs.lemmas.List.{get_or-take, get_or_default, take_more}
+use Rattle.std.proofs.lemmas.List.{take_all, take_more}
+use Rattle.far_io.proofs.Faults.{follows_on}
+use Rattle.block_seats.specs.Tables.{without}
 use Rattle.block_home.specs.Homes.{HomeView}
-use Rattle.block_file.specs.Growth.{without_blocks, without_placed_block}
-use Rattle.block_file.proofs.Growing.{without_blocks-push, find-without_blocks}
+use Rattle.block_home.specs.Holding.{Holds}
+use Rattle.block_file.specs.Growth.{GoOut, without_all}
+use Rattle.block_file.proofs.Going.{next_apart, out-push, find-without_all, without_all-push, kind_then}
 use Rattle.block_file.proofs.blocks.cut_blocks.Goals as goal
 
 pub cut-requires : goal.cut-requires
-cut-requires c =
+cut-requires g c =
     let blocks = c.args.blocks.now in
     let i = c.loop-block.block-index in
     let inside = c.loop-block-test.true in
-    let block = get_or blocks i 0 in
-    let apart : All (λ b. block ≢ b) (take i blocks) = λ k d early same.
-    let before : k < i = omega (arith, length-take i blocks) in
-    c.requires.1.distinct k i d before inside (sym (get_or-take i blocks k d before) ∙ sym same ∙ get_or_default blocks i 0 d inside) in
+    let there = c.requires.each i inside in
     ap is_some
-    (ap (λ (h : HomeView). find nat_cmp block h.blocks) c.loop-block.invariant
-    ∙ find-without_blocks c.args.home.now (take i blocks) block apart
-    ∙ c.requires.1.each i inside)
+    (ap (find nat_cmp (get_or blocks i 0)) c.loop-block.invariant.blocks_are
+    ∙ find-without_all c.args.home.now.seats.blocks (take i blocks) (get_or blocks i 0) (next_apart blocks i c.requires.distinct inside))
+    ∙ there.there
 
 pub loop-block-preserved : goal.loop-block-preserved
-loop-block-preserved c =
-    let home = c.args.home.now in
+loop-block-preserved g c =
+    let start = c.args.home.now in
     let blocks = c.args.blocks.now in
-    let i = c.loop-block.block-index in
+    let l = c.loop-block in
+    let i = l.block-index in
     let block = get_or blocks i 0 in
     let cut = c.cut.ensures in
-    let now : c.cut.new.self ≡ without_placed_block c.loop-block.home block = cut.rest ∙ (λ j. record c.loop-block.home { blocks = cut.blocks j; purse = cut.purse j; moves = cut.moves j }) in
-    now
-    ∙ ap (λ h. without_placed_block h block) c.loop-block.invariant
-    ∙ sym (without_blocks-push home (take i blocks) block)
-    ∙ ap (without_blocks home) (sym (take_more blocks i 0 c.loop-block-test.true))
+    let now = c.cut.new.self in
+    let told = g.K.Shelf.told in
+    let faults = g.K.Shelf.faults in
+    let more = sym (take_more blocks i 0 c.loop-block-test.true) in
+    let user_is : l.home.user ≡ start.user = ap (λ (h : HomeView g.row.K.Denot). h.user) l.invariant.rest in
+    record {
+      rest = cut.rest ∙ (λ j. record (l.invariant.rest j) { seats = now.seats; shelf = now.shelf });
+      blocks_are = cut.blocks ∙ ap (without block) l.invariant.blocks_are ∙ sym (without_all-push start.seats.blocks (take i blocks) block) ∙ ap (without_all start.seats.blocks) more;
+      goes = subst (λ went. GoOut went start.seats now.seats) more (out-push (take i blocks) block start.seats l.home.seats now.seats l.invariant.goes cut.purse cut.places cut.moves cut.alike);
+      kind = kind_then (told start.shelf) (told l.home.shelf) (told now.shelf) l.invariant.kind cut.kind;
+      follows = follows_on (faults start.shelf) (faults l.home.shelf) (faults now.shelf) l.invariant.follows cut.follows;
+      holds = λ m holds.
+          subst (λ es. Holds es (told now.shelf) start.user now.seats.blocks) (sym (without_all-push m (take i blocks) block) ∙ ap (without_all m) more)
+          (subst (λ u. Holds (without block (without_all m (take i blocks))) (told now.shelf) u now.seats.blocks) user_is
+          (cut.holds (without_all m (take i blocks)) (subst (λ u. Holds (without_all m (take i blocks)) (told l.home.shelf) u l.home.seats.blocks) (sym user_is) (l.invariant.holds m holds))));
+    }
+
+pub returns-clause-holds : goal.returns-clause-holds
+returns-clause-holds g c = λ m holds.
+    subst (λ bs. Holds (without_all m bs) (g.K.Shelf.told c.loop-block.home.shelf) c.args.home.now.user c.loop-block.home.seats.blocks) (take_all c.loop-block.block-index c.args.blocks.now c.loop-block-test.false) (c.loop-block.invariant.holds m holds)

@@ -16,7 +16,7 @@ returns-in_err-why-clause-breaks g c =
     let last = sym (c.sink-1.given.1 (sym (front ∙ c.new-out.ensures.same_sink)) ∙ c.drop-out.ensures) in
     on_error c.from_residual.result
     (gathered_breaks g.T.LineTaker.rules (reading g.S.Source.left g.S.Source.faults c.args.source.now c.take_lines.new.source) g.O.Sink.took g.O.Sink.faults c.args.sink.now _ c.new-out.result c.take_lines.new.out
-    c.args.taker.now c.new-out.ensures.sink last c.new-out.ensures.empty breaks)
+    c.args.taker.now c.take_lines.new.taker c.new-out.ensures.sink last c.new-out.ensures.empty breaks)
 
 pub returns-in_err-why-clause-cause : goal.returns-in_err-why-clause-cause
 returns-in_err-why-clause-cause g c =
@@ -30,12 +30,12 @@ pub returns-in_err-pass_on-clause-breaks : goal.returns-in_err-pass_on-clause-br
 returns-in_err-pass_on-clause-breaks g c =
     let read = reading g.S.Source.left g.S.Source.faults c.args.source.now c.take_lines.new.source in
     let rose = rose_before _ _ _ c.in_ok-why.ensures.cause.follows c.in_err-pass_on.ensures.cause.failed in
-    let breaks = breaks_at_end g.T.LineTaker.rules read (BufTook g.O.Sink.took) (λ (b : WriteBuf g.row.O.Denot). g.O.Sink.faults b.sink.now) c.new-out.result c.take_lines.new.out c.pass_on.new.self c.args.taker.now
+    let breaks = breaks_at_end g.T.LineTaker.rules read (BufTook g.O.Sink.took) (λ (b : WriteBuf g.row.O.Denot). g.O.Sink.faults b.sink.now) c.new-out.result c.take_lines.new.out c.pass_on.new.self c.args.taker.now c.take_lines.new.taker
     (end_of c.in_ok-why.why) _ c.in_ok-why.ensures.comes c.in_err-pass_on.ensures.bytes rose in
     let front = stays_in_front g.O.Sink.took c.new-out.result c.pass_on.new.self breaks.adds.sent breaks.adds.adds in
     let last = sym (c.sink-in_err-pass_on-1.given.1 (sym (front ∙ c.new-out.ensures.same_sink)) ∙ c.drop-out-in_err-pass_on.ensures) in
     on_error c.from_residual-in_err-pass_on.result
-    (gathered_breaks g.T.LineTaker.rules read g.O.Sink.took g.O.Sink.faults c.args.sink.now _ c.new-out.result c.pass_on.new.self c.args.taker.now c.new-out.ensures.sink last c.new-out.ensures.empty breaks)
+    (gathered_breaks g.T.LineTaker.rules read g.O.Sink.took g.O.Sink.faults c.args.sink.now _ c.new-out.result c.pass_on.new.self c.args.taker.now c.take_lines.new.taker c.new-out.ensures.sink last c.new-out.ensures.empty breaks)
 
 pub returns-in_err-pass_on-clause-cause : goal.returns-in_err-pass_on-clause-cause
 returns-in_err-pass_on-clause-cause g c =
@@ -49,10 +49,10 @@ returns-in_err-pass_on-clause-cause g c =
 pub returns-clause-comes : goal.returns-clause-comes
 returns-clause-comes g c =
     let read = reading g.S.Source.left g.S.Source.faults c.args.source.now c.take_lines.new.source in
-    let comes = comes_passed_on g.T.LineTaker.rules read (BufTook g.O.Sink.took) c.new-out.result c.take_lines.new.out c.pass_on.new.self c.args.taker.now (end_of c.in_ok-why.why) _ c.in_ok-why.ensures.comes c.in_ok-pass_on.ensures.bytes in
+    let comes = comes_passed_on g.T.LineTaker.rules read (BufTook g.O.Sink.took) c.new-out.result c.take_lines.new.out c.pass_on.new.self c.args.taker.now c.take_lines.new.taker (end_of c.in_ok-why.why) _ c.in_ok-why.ensures.comes c.in_ok-pass_on.ensures.bytes in
     let front = stays_in_front g.O.Sink.took c.new-out.result c.pass_on.new.self _ comes.adds in
     let last = sym (c.sink-2-1.given.1 (sym (front ∙ c.new-out.ensures.same_sink)) ∙ c.drop-out-2.ensures) in
-    gathered_comes g.T.LineTaker.rules read g.O.Sink.took g.O.Sink.faults c.args.sink.now _ c.new-out.result c.pass_on.new.self c.args.taker.now c.new-out.ensures.sink last c.new-out.ensures.empty
+    gathered_comes g.T.LineTaker.rules read g.O.Sink.took g.O.Sink.faults c.args.sink.now _ c.new-out.result c.pass_on.new.self c.args.taker.now c.take_lines.new.taker c.new-out.ensures.sink last c.new-out.ensures.empty
     (end_of c.in_ok-why.why) _ c.in_ok-pass_on.ensures.empty comes
 
 pub returns-clause-cause : goal.returns-clause-cause

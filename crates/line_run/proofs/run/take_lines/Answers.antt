@@ -63,7 +63,7 @@ returns-in-Err-TooLong-clause-comes g c =
     let limit = ap (λ (l : LineView). l.limit) c.in_ok-pass_on_before_wait.ensures.kept ∙ c.lines.invariant.limit in
     let read = rw c.in-Err-TooLong.field-0-is at c.in-Err-TooLong.ensures.read in
     let long = long_line _ _ _ _ _ read in
-    comes_to_stop g.T.LineTaker.rules g.B.Sink.took _ _ _ _ c.args.taker.now c.lines.taker _ so_far (reading g.S.Source.left g.S.Source.faults c.args.source.now _) long.0 (end_of c.at_long_line.result) _ refl c.at_long_line.ensures.own
+    comes_to_stop g.T.LineTaker.rules g.B.Sink.took _ _ _ _ c.args.taker.now c.lines.taker _ so_far (reading g.S.Source.left g.S.Source.faults c.args.source.now _) long.0 (end_of c.at_long_line.result) _ c.lines.taker refl c.at_long_line.ensures.own
     (c.at_long_line.ensures.stops long.0 c.read_line.new.line.line (subst (λ n. n < length long.0) (read.limit_is ∙ limit) long.1)) long.2
 
 pub returns-in_err-take_line-clause-breaks : goal.returns-in_err-take_line-clause-breaks
@@ -80,10 +80,10 @@ returns-in-Some-clause-comes g c =
     let so_far = after_pass g.T.LineTaker.rules g.B.Sink.took c.args.out.now c.lines.out c.pass_on_before_wait.new.out _ _ c.args.taker.now c.lines.taker c.lines.line c.pass_on_before_wait.new.line
     c.lines.invariant.so_far c.in_ok-pass_on_before_wait.ensures.bytes c.in_ok-pass_on_before_wait.ensures.kept in
     let comes = rw c.in-Some.is at c.in_ok-take_line.ensures.comes in
-    let P : List ℕ → Type 0 = λ line. StopsAtLine g.T.LineTaker.rules c.pass_on_before_wait.new.out c.take_line.new.sink c.lines.taker line (end_of c.in-Some.why) (g.T.LineTaker.last_text c.take_line.new.self line c.in-Some.why) in
+    let P : List ℕ → Type 0 = λ line. StopsAtLine g.T.LineTaker.rules c.pass_on_before_wait.new.out c.take_line.new.sink c.lines.taker c.take_line.new.self line (end_of c.in-Some.why) (g.T.LineTaker.last_text c.take_line.new.self line c.in-Some.why) in
     let stop = subst P c.bytes.ensures comes in
     comes_to_stop_unsent g.T.LineTaker.rules g.B.Sink.took _ _ _ _ c.args.taker.now c.lines.taker _ so_far (reading g.S.Source.left g.S.Source.faults c.args.source.now _) c.read_line.new.line.line
-    (end_of c.in-Some.why) _ c.take_line.new.sink stop.unsent refl stop.own stop.stops (next_line _ _ _ _ c.in-Ok.ensures.read)
+    (end_of c.in-Some.why) _ c.take_line.new.self c.take_line.new.sink stop.unsent refl stop.own stop.stops (next_line _ _ _ _ c.in-Ok.ensures.read)
 
 pub lines-preserved : goal.lines-preserved
 lines-preserved g c =

@@ -1,9 +1,9 @@
 use Rattle.std.proofs.Common.{arith}
-use Rattle.block_home.proofs.Seats.{used_and_open}
+use Rattle.block_seats.proofs.Seats.{used_and_open}
 use Rattle.block_home.proofs.home.Home.prepare.Goals as goal
 
-pub returns-then-need-from-clause-room : goal.returns-then-need-from-clause-room
-returns-then-need-from-clause-room c = omega (arith, used_and_open c.args.self.now.purse)
+pub returns-then-need-from-clause-counts : goal.returns-then-need-from-clause-counts
+returns-then-need-from-clause-counts g c = omega (arith, used_and_open c.args.self.now.seats.purse)
 
-pub returns-clause-room : goal.returns-clause-room
-returns-clause-room c = omega (arith, used_and_open c.args.self.now.purse)
+pub returns-clause-counts : goal.returns-clause-counts
+returns-clause-counts g c = omega (arith, used_and_open c.args.self.now.seats.purse)

@@ -1,35 +1,35 @@
-use Rattle.std.proofs.Common.{ap, sym, subst, ◌∙◌}
+use Rattle.std.proofs.Common.{ap, sym, subst, ◌∙◌, refl}
 use Rattle.far_words.specs.declared.request.Outcome.TheVariants.{Reply as Replied}
-use Rattle.far_history.specs.Histories.{Terms, fits}
-use Rattle.far_history.specs.Entries.{Ask, Grant}
-use Rattle.tenant_world.specs.Views.{TenantView, event_of}
-use Rattle.tenant_world.specs.declared.tenant.TenantAsk.{TenantAsk}
-use Rattle.tenant_world.specs.declared.tenant.TenantAsk.TheVariants.{Grant as Granting}
-use Rattle.std.specs.Bool.{IsTrue}
-use Rattle.tenant_world.proofs.Served.{grown, nothing_moved}
+use Rattle.far_history.specs.Entries.{Ask}
+use Rattle.tenant_world.specs.Well.{tenant_view}
+use Rattle.tenant_world.specs.Serves.{coming}
+use Rattle.far_io.proofs.Faults.{follows_itself}
+use Rattle.tenant_world.proofs.Served.{nothing_moved}
+use Rattle.tenant_world.proofs.Steps.{grown, step_cleared, telling_cleared, void_cleared}
 use Rattle.tenant_world.proofs.tenant.Tenant.apply.Goals as goal
 
 pub returns-in-Ask-clause-stands : goal.returns-in-Ask-clause-stands
-returns-in-Ask-clause-stands c h st =
-    let i = c.self.inside in
-    let more = grown i.moment i.names.entries i.home c.args.self.now (Ask c.in-Ask.moment c.in-Ask.request) (Replied c.ask.result) c.ask.new.self (ap (λ (v : TenantView). v.terms) c.self.view_is) (ap (λ (v : TenantView). v.state) c.self.view_is) (ap (λ (v : TenantView). v.terms) c.ask.ensures.stays) c.ask.ensures.step h st in
-    rw c.in-Ask.is more
+returns-in-Ask-clause-stands g c =
+    rw (c.in-Ask.is, ← c.self.view_is)
+    (grown g.K.Shelf.told g.K.Shelf.faults (tenant_view c.self.inside) c.ask.new.self (Ask c.in-Ask.moment c.in-Ask.request) (Replied c.ask.result) c.ask.ensures.keeps.terms c.ask.ensures.keeps.counts
+    (step_cleared g.K.Shelf.told g.K.Shelf.faults (tenant_view c.self.inside) c.clear.new.self (Ask c.in-Ask.moment c.in-Ask.request) (Replied c.ask.result) c.ask.new.self c.ask.ensures.step))
+
+pub returns-in-Ask-clause-telling : goal.returns-in-Ask-clause-telling
+returns-in-Ask-clause-telling g c =
+    rw (← c.self.view_is) (telling_cleared g.K.Shelf.told g.K.Shelf.faults (tenant_view c.self.inside) c.clear.new.self (Replied c.ask.result) c.ask.ensures.telling)
+
+pub returns-in-Ask-clause-void : goal.returns-in-Ask-clause-void
+returns-in-Ask-clause-void g c =
+    rw (c.in-Ask.is, ← c.self.view_is) (void_cleared g.K.Shelf.told g.K.Shelf.faults (tenant_view c.self.inside) c.clear.new.self c.in-Ask.moment c.in-Ask.request (Replied c.ask.result) c.ask.ensures.void)
 
 pub returns-in-Grant-clause-stands : goal.returns-in-Grant-clause-stands
-returns-in-Grant-clause-stands c h st =
-    let i = c.self.inside in
-    let slice = c.in-Grant.slice in
-    let more = grown i.moment i.names.entries i.home c.args.self.now (Grant slice.id slice.number slice.size) c.grant.result.outcome c.grant.new.self (ap (λ (v : TenantView). v.terms) c.self.view_is) (ap (λ (v : TenantView). v.state) c.self.view_is) (ap (λ (v : TenantView). v.terms) c.grant.ensures.stays) c.grant.ensures.step h st in
-    rw c.in-Grant.is more
-
-pub returns-in-Grant-clause-fitting : goal.returns-in-Grant-clause-fitting
-returns-in-Grant-clause-fitting c s e fit =
-    let told = ap (λ (v : TenantView). v.state) c.self.view_is ∙ e in
-    let here = subst (λ (a : TenantAsk). IsTrue (fits c.args.self.now.terms s (event_of a))) c.in-Grant.is fit in
-    c.grant.ensures.fitting s told (subst (λ (t : Terms). IsTrue (fits t s (event_of (Granting c.in-Grant.slice)))) (sym (ap (λ (v : TenantView). v.terms) c.self.view_is)) here)
+returns-in-Grant-clause-stands g c =
+    rw (c.in-Grant.is, ← c.self.view_is)
+    (grown g.K.Shelf.told g.K.Shelf.faults (tenant_view c.self.inside) c.grant.new.self (coming c.in-Grant.slice) c.grant.result.outcome c.grant.ensures.terms (rw c.grant.ensures.shelf (follows_itself _))
+    (step_cleared g.K.Shelf.told g.K.Shelf.faults (tenant_view c.self.inside) c.clear.new.self (coming c.in-Grant.slice) c.grant.result.outcome c.grant.new.self c.grant.ensures.step))
 
 pub invariant_of-self : goal.invariant_of-self
-invariant_of-self c = record { within = c.self.invariant.within; most = c.self.invariant.most; order = nothing_moved c.clear.new.self _ c.clear.ensures; kept = c.self.invariant.kept }
+invariant_of-self g c = record { within = c.self.invariant.within; ordered = c.self.invariant.ordered; most = c.self.invariant.most; room = rw c.clear.ensures c.self.invariant.room; order = nothing_moved c.clear.new.self _ c.clear.ensures; kept = c.self.invariant.kept }
 
 pub invariant_of-self-in-Grant : goal.invariant_of-self-in-Grant
-invariant_of-self-in-Grant c = record { within = c.self.invariant.within; most = c.self.invariant.most; order = nothing_moved c.clear.new.self _ c.clear.ensures; kept = c.self.invariant.kept }
+invariant_of-self-in-Grant g c = record { within = c.self.invariant.within; ordered = c.self.invariant.ordered; most = c.self.invariant.most; room = rw c.clear.ensures c.self.invariant.room; order = nothing_moved c.clear.new.self _ c.clear.ensures; kept = c.self.invariant.kept }

@@ -1,13 +1,19 @@
-use Rattle.std.proofs.Common.{ap, sym, refl, ◌∙◌}
-use Rattle.tenant_world.specs.Views.{TenantView}
-use Rattle.tenant_world.proofs.Served.{asked, stays_in}
+use Rattle.tenant_world.proofs.Steps.{asked, asked_keeps, asked_telling, asked_void}
+use Rattle.tenant_world.specs.Well.{tenant_view}
 use Rattle.tenant_world.proofs.tenant.Tenant.ask.Goals as goal
 
 pub returns-clause-step : goal.returns-clause-step
-returns-clause-step c =
-    let i = c.self.inside in
-    asked c.args.self.now i.names.entries i.home i.moment c.args.moment c.max-self-inside.result c.args.request c.serve.result _ c.serve.new.self
-    (sym (ap (λ (v : TenantView). v.state) c.self.view_is)) (ap (λ (v : TenantView). v.terms) c.self.view_is) refl c.max-self-inside.ensures c.serve.ensures
+returns-clause-step g c =
+    rw (← c.self.view_is) (asked g.K.Shelf.told g.K.Shelf.faults (tenant_view c.self.inside) c.max-self-inside.result c.args.moment c.max-self-inside.ensures c.args.request c.serve.result _ c.serve.ensures)
 
-pub returns-clause-stays : goal.returns-clause-stays
-returns-clause-stays c = c.serve.ensures.stays ∙ stays_in c.self.inside c.self.view_is c.serve.new.self.state c.serve.new.self.moves
+pub returns-clause-keeps : goal.returns-clause-keeps
+returns-clause-keeps g c =
+    rw (← c.self.view_is) (asked_keeps g.K.Shelf.told g.K.Shelf.faults (tenant_view c.self.inside) c.max-self-inside.result c.args.moment c.max-self-inside.ensures c.args.request c.serve.result _ c.serve.ensures)
+
+pub returns-clause-telling : goal.returns-clause-telling
+returns-clause-telling g c =
+    rw (← c.self.view_is) (asked_telling g.K.Shelf.told g.K.Shelf.faults (tenant_view c.self.inside) c.max-self-inside.result c.args.moment c.max-self-inside.ensures c.args.request c.serve.result _ c.serve.ensures)
+
+pub returns-clause-void : goal.returns-clause-void
+returns-clause-void g c =
+    rw (← c.self.view_is) (asked_void g.K.Shelf.told g.K.Shelf.faults (tenant_view c.self.inside) c.max-self-inside.result c.args.moment c.max-self-inside.ensures c.args.request c.serve.result _ c.serve.ensures)

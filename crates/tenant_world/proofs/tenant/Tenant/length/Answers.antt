@@ -1,14 +1,16 @@
-use Rattle.std.proofs.Common.{refl, ap, sym}
-use Rattle.tenant_world.specs.Views.{TenantView}
+use Rattle.std.proofs.Common.{refl, sym}
+use Rattle.tenant_world.proofs.Steps.{still_in, keeps_home, unmoved_itself}
 use Rattle.tenant_world.proofs.Asking.{length_nowhere, length_done}
 use Rattle.tenant_world.proofs.tenant.Tenant.length.Goals as goal
 
 pub returns-in_default : goal.returns-in_default
-returns-in_default c =
+returns-in_default g c =
     let i = c.self.inside in
-    length_nowhere i.moment i.names.entries i.home c.self.invariant.kept _ (sym (ap (λ (v : TenantView). v.state) c.self.view_is)) _ c.requires refl refl c.args.path.now (sym c.in_default.ensures.value)
+    rw (← c.self.view_is)
+    (length_nowhere g.K.Shelf.told g.K.Shelf.faults _ _ (still_in i c.self.view_is c.requires) (keeps_home _ _ _ _ refl refl) c.args.path.now (unmoved_itself _ _) (sym c.in_default.ensures.value))
 
 pub returns : goal.returns
-returns c =
+returns g c =
     let i = c.self.inside in
-    rw c.length_in.ensures (length_done i.moment i.names.entries i.home c.self.invariant.kept _ (sym (ap (λ (v : TenantView). v.state) c.self.view_is)) _ c.requires refl refl c.args.path.now c.in-Some.named.now (sym c.in-Some.ensures.value))
+    rw (c.length_in.ensures, ← c.self.view_is)
+    (length_done g.K.Shelf.told g.K.Shelf.faults _ _ (still_in i c.self.view_is c.requires) (keeps_home _ _ _ _ refl refl) c.args.path.now (unmoved_itself _ _) c.in-Some.named.now (sym c.in-Some.ensures.value))

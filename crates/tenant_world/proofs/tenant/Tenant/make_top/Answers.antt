@@ -3,14 +3,14 @@ use Rattle.std.specs.declared.option.Option.{Option}
 use Rattle.std.specs.Map.{lookup}
 use Rattle.std.specs.BTreeMap.{is_at}
 use Rattle.far_words.specs.Paths.{bytes_cmp}
+use Rattle.block_file.specs.Files.{FileView, empty_file}
+use Rattle.far_history.specs.Layouts.{kept_blocks}
 use Rattle.tenant_world.specs.declared.names.Named.{Named}
 use Rattle.tenant_world.specs.declared.names.Content.TheVariants.{File}
-use Rattle.block_file.specs.Files.{FileView, empty_file}
-use Rattle.tenant_world.specs.Views.{TenantView, kept_of, told_state}
-use Rattle.tenant_world.specs.Well.{AreKept}
-use Rattle.far_history.specs.Layouts.{kept_blocks}
-use Rattle.tenant_world.proofs.Served.{still_in, stays_in}
+use Rattle.tenant_world.specs.Outlines.{kept_of}
+use Rattle.tenant_world.specs.Well.{AreKept, tenant_view}
 use Rattle.tenant_world.proofs.Kept.{kept_made}
+use Rattle.tenant_world.proofs.Steps.{still_in, keeps_home, unmoved_itself}
 use Rattle.tenant_world.proofs.Asking.{make_again, make_starved, make_done}
 use Rattle.tenant_world.proofs.tenant.Tenant.make_top.Goals as goal
 
@@ -23,36 +23,41 @@ none_of (Some n) e = cc
 none_of None e = refl
 
 pub returns-then-contains_key : goal.returns-then-contains_key
-returns-then-contains_key c =
+returns-then-contains_key g c =
     let i = c.self.inside in
     let there = some_of (lookup (is_at (bytes_cmp c.args.path)) i.names.entries) c.if-contains_key.ensures in
-    make_again i.moment i.names.entries i.home c.self.invariant.kept _ (sym (ap (λ (v : TenantView). v.state) c.self.view_is)) _ c.requires.still refl refl c.args.path there.0 c.args.kind c.args.span there.1 c.requires.top
+    rw (← c.self.view_is)
+    (make_again g.K.Shelf.told g.K.Shelf.faults _ _ (still_in i c.self.view_is c.requires.still) (keeps_home _ _ _ _ refl refl) c.args.path (unmoved_itself _ _) there.0 c.args.kind c.args.span there.1 c.requires.top)
 
 pub invariant_of-self : goal.invariant_of-self
-invariant_of-self c =
+invariant_of-self g c =
     let i = c.self.inside in
     let named : Named = record { lease = c.saturating_add-lease.result; content = File c.new.result } in
     let none = none_of (lookup (is_at (bytes_cmp c.args.path)) i.names.entries) c.if-contains_key.ensures in
     let bare : kept_blocks (kept_of named.content) ≡ [] = ap (λ (f : FileView). f.blocks) c.new.ensures.file in
     record {
       within = c.self.invariant.within;
+      ordered = c.self.invariant.ordered;
       most = c.self.invariant.most;
+      room = c.self.invariant.room;
       order = c.self.invariant.order;
-      kept = subst (λ (es : List (List ℕ × Named)). AreKept es i.home) (sym c.in-Ok.ensures.entries) (kept_made i.names.entries i.home c.args.path named c.self.invariant.kept none bare ([], c.new.ensures.bytes i.home));
+      kept = subst (λ (es : List (List ℕ × Named)). AreKept es i.home.seats) (sym c.in-Ok.ensures.entries) (kept_made i.names.entries i.home.seats c.args.path named c.self.invariant.kept none bare (c.new.ensures.sound i.home.seats));
     }
 
 pub returns-in-Ok : goal.returns-in-Ok
-returns-in-Ok c =
+returns-in-Ok g c =
     let i = c.self.inside in
     let named : Named = record { lease = c.saturating_add-lease.result; content = File c.new.result } in
     let none = none_of (lookup (is_at (bytes_cmp c.args.path)) i.names.entries) c.if-contains_key.ensures in
     let empty : named.content ≡ File empty_file = ap (λ (f : FileView). File f) c.new.ensures.file in
-    make_done i.moment i.names.entries c.insert.new.self.entries i.home c.args.self.now (sym (ap (λ (v : TenantView). v.state) c.self.view_is)) _ (still_in c.self.inside c.self.view_is c.requires.still) (stays_in i c.self.view_is _ _) c.args.path c.args.kind c.args.span named refl c.requires.top none c.in-Ok.ensures.entries c.saturating_add-lease.ensures empty
+    rw (← c.self.view_is)
+    (make_done g.K.Shelf.told g.K.Shelf.faults _ _ (still_in i c.self.view_is c.requires.still) (keeps_home _ _ _ _ refl refl) c.args.path c.args.kind c.args.span named
+    (record { moment = refl; names = c.in-Ok.ensures.entries; home = refl }) c.requires.top none c.saturating_add-lease.ensures empty)
 
 pub returns : goal.returns
-returns c =
+returns g c =
     let i = c.self.inside in
     let none = none_of (lookup (is_at (bytes_cmp c.args.path)) i.names.entries) c.if-contains_key.ensures in
-    let was = ap (λ (v : TenantView). v.state) c.self.view_is in
-    let same = ap (λ (es : List (List ℕ × Named)). told_state i.moment es i.home) c.in-Err.ensures.err ∙ was in
-    make_starved i.moment i.names.entries i.home c.self.invariant.kept c.args.self.now (sym was) _ (still_in c.self.inside c.self.view_is c.requires.still) (stays_in i c.self.view_is _ _) same c.args.path c.args.kind c.args.span none c.requires.top
+    rw (← c.self.view_is)
+    (make_starved g.K.Shelf.told g.K.Shelf.faults _ _ (still_in i c.self.view_is c.requires.still) (keeps_home _ _ _ _ refl refl) c.args.path
+    (record { moment = refl; names = c.in-Err.ensures.err; user = refl; strays = refl; purse = refl; blocks = refl; told_is = refl }) c.args.kind c.args.span none c.requires.top)
