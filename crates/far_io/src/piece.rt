@@ -65,13 +65,15 @@ impl Piece {
         self.len = to;
     }
 
-    fn clear(&mut self)
+    /// Drops all that waits.
+    pub fn clear(&mut self)
         ensures { self.new ≡ [] }
     {
         self.len = 0;
     }
 
-    fn bytes(&self) -> &[u8]
+    /// The bytes that wait.
+    pub fn bytes(&self) -> &[u8]
         ensures { result.now ≡ self.now }
     {
         &self.bytes[..self.len]

@@ -14,7 +14,7 @@ use Rattle.karma_rule.specs.Quanta.{MakesQuantum}
 use Rattle.karma_rule.specs.Laws.{standing}
 use Rattle.karma_rule.proofs.Walks.{map-map}
 use Rattle.demand_book.specs.Book.{BookView, opening_book, demanding, seated_book}
-use Rattle.demand_book.specs.Inside.{IsRow, IsBook, IsShare as IsBookShare}
+use Rattle.demand_book.specs.Inside.{IsRow, IsBook, IsShare}
 use Rattle.demand_book.specs.Roster.{seat_of, fair_of_seat}
 use Rattle.demand_book.proofs.RowsOfBook.{one_more, ready_rows, opens as book_opens}
 use Rattle.demand_book.proofs.Seating.{book_seated, book_stays}
@@ -66,9 +66,6 @@ module _ (book : BookView) (demands : List ℕ) (changes : Bool) (inside : IsLef
     };
   }
 
-  seated : IsBook (seated_book asked) promised false
-  seated = book_seated asked promised changes demanded
-
   pub its_laws : MakesQuantum (seated_book asked).rows (after_demands book demands).rows
   its_laws = karma_keeps (seated_book asked).rows (karma (seated_book asked).rows) (ready_rows (seated_book asked) promised false (book_seated asked promised changes demanded)) refl
 
@@ -83,7 +80,7 @@ steady_laws book demands inside low more =
     subst (λ (seated_then : BookView). MakesQuantum seated_then.rows (karma (seated_book asked).rows)) stay (its_laws book demands false inside low more)
 
 -- a roster that was told
-seat_within : (seat : Option Share) → IsSeat seat → IfSome seat IsBookShare
+seat_within : (seat : Option Share) → IsSeat seat → IfSome seat IsShare
 seat_within None is = tt
 seat_within (Some share) is = record { fair = is.fair; floor = is.floor }
 
@@ -95,7 +92,7 @@ inside_told book changes roster inside is =
       users = inside.users;
       quanta = inside.quanta;
       rows = inside.rows;
-      roster = record { users = parts.many; shares = All-weaker IsSeat (λ seat. IfSome seat IsBookShare) seat_within roster parts.within; all = refl; within = parts.together; same = tt };
+      roster = record { users = parts.many; shares = All-weaker IsSeat (λ seat. IfSome seat IsShare) seat_within roster parts.within; all = refl; within = parts.together; same = tt };
     }
 
 pub its_demands : (book : BookView) (changes : Bool) → IsLeft book changes → All (λ (row : Row). row.demand ≤ 2 ^ 42) book.rows

@@ -3,7 +3,7 @@ use Rattle.std.proofs.Common.{◌≡◌, ℕ, zero, suc, ◌+◌, ◌<◌, ◌�
 use Rattle.std.specs.Bool.{Decides}
 use Rattle.std.specs.List.{All, list_all}
 use Rattle.std.specs.Str.{bytes_eq}
-use Rattle.std.proofs.lemmas.Bool.{cond-true, cond-false, and_from, and_parts, le-leb, lt-leb, leb-true, leb-false, eq-eqb, eqb-true, false_from_ne_true, true≢false}
+use Rattle.std.proofs.lemmas.Bool.{cond-true, cond-false, and_from, and_parts, le-leb, leb-true, leb-false, eq-eqb, eqb-true, false_from_ne_true, true≢false}
 use Rattle.std.proofs.lemmas.Bool.Decides.{Decides-by_and}
 use Rattle.std.proofs.lemmas.List.Elements.{All-get_or, All-tail}
 use Rattle.std.proofs.lemmas.Slice.Eq.{bytes_eq-Decides}
@@ -21,11 +21,9 @@ use Rattle.quantum_text.specs.Block.{line_text, IsLine, IsNoLine}
 use Rattle.quantum_text.specs.Shares.{shares_text}
 use Rattle.quantum_text.proofs.Words.{line_words, numbers_fit}
 use Rattle.run_end.specs.declared.TheConstants.{MOST_LINE}
-use Rattle.run_end.specs.declared.status.Status.TheVariants.{NotKarma}
-use Rattle.plan_run.specs.Ending.{Ending, ends_at}
+use Rattle.plan_run.specs.Ending.{Ending}
 use Rattle.plan_run.specs.SharesLine.{roster_of_line}
-use Rattle.plan_run.specs.AuditText.{with_demands, with_seats, numbers_of_line, due_numbers, due_roster, may_be_shares, wanted, compared, AuditState, audit_state, not_karma, audit_one, bad_ending, read_as, taken_as, judged, IsMade, IsAt, next_kind, audit_end, audit_over}
-use Rattle.plan_run.proofs.Choices.{no_choice}
+use Rattle.plan_run.specs.AuditText.{with_demands, with_seats, numbers_of_line, due_numbers, due_roster, may_be_shares, wanted, compared, AuditState, audit_state, audit_one, read_as, taken_as, judged, IsMade, IsAt, next_kind, audit_end, audit_over}
 use Rattle.plan_run.proofs.SharesLines.{other_line}
 
 -- lists of numbers that are the same at each place
@@ -84,9 +82,6 @@ module _ (kind : LineKind) (users : ℕ) (line : List ℕ) where
       })))
 
 module _ (book : BookView) (kind : LineKind) (line : List ℕ) where
-  pub due_spent : (spent : Bool) → spent ≡ (is_first kind && nat_le (2 ^ 28) book.quanta) → spent ≡ true → due_numbers book kind line ≡ None
-  due_spent spent is_spent so = cond-true _ _ _ (sym is_spent ∙ so)
-
   pub due_left : (spent : Bool) → spent ≡ (is_first kind && nat_le (2 ^ 28) book.quanta) → spent ≡ false → due_numbers book kind line ≡ numbers_of_line kind book.shape.users line
   due_left spent is_spent so = cond-false _ _ _ (sym is_spent ∙ so)
 
@@ -137,10 +132,6 @@ compared_one Demand other state line numbers others = absurd (other refl)
 compared_one Slices other state line numbers others = refl
 compared_one Credits other state line numbers others = refl
 
-pub differs : (kind : LineKind) (state : AuditState) (line numbers : List ℕ) → bytes_eq numbers (wanted kind state.book) ≡ false → (others : AuditState → Ending)
-    → compared kind state line numbers others ≡ record { text = not_karma (state.lines + 1) kind (wanted kind state.book) line; end = ends_at NotKarma (state.lines + 1) }
-differs kind state line numbers other others = cond-false _ _ _ other
-
 -- ---- a line of shares, or of numbers
 pub shares_need_demand : (kind : LineKind) (shares_read : Bool) → may_be_shares kind shares_read ≡ true → (kind ≡ Demand) × (shares_read ≡ false)
 shares_need_demand Quantum shares_read may = absurd (cc)
@@ -161,13 +152,6 @@ module _ (book : BookView) (kind : LineKind) (shares_read : Bool) (line : List �
 
   pub shares_here : may_be_shares kind shares_read ≡ true → due_roster book kind shares_read line ≡ roster_of_line book.shape book.roster line
   shares_here here = cond-true _ _ _ here
-
-  -- no line of the kind that is due, and one that is
-  pub one_bad : (lines : ℕ) → due_roster book kind shares_read line ≡ None → due_numbers book kind line ≡ None → (others : AuditState → Ending)
-      → audit_one (audit_state book kind shares_read lines) line others ≡ bad_ending book kind lines
-  one_bad lines no_roster none others =
-      let state = audit_state book kind shares_read lines in
-      ap (λ roster. taken_as state line roster others) no_roster ∙ ap (λ due. read_as state line due others) none
 
   pub one_good : (lines : ℕ) (numbers : List ℕ) → due_roster book kind shares_read line ≡ None → due_numbers book kind line ≡ Some numbers → (others : AuditState → Ending)
       → audit_one (audit_state book kind shares_read lines) line others ≡ judged kind (audit_state book kind shares_read lines) line numbers others
@@ -191,25 +175,9 @@ pub demands_are_no_shares : (book : BookView) (shares_read : Bool) (demands : Li
 demands_are_no_shares book true demands = refl
 demands_are_no_shares book false demands = other_line book.shape book.roster (line_text Demand demands) (demand_word demands)
 
--- what was told of a line that is read
-pub due_bad : {A : Type 0} (due : Option A) (good : Bool) (Is : A → Type 0) → MatchOption due (good ≡ false) (λ read. (good ≡ true) × Is read) → good ≡ false → due ≡ None
-due_bad None good Is told bad = refl
-due_bad (Some read) good Is told bad = absurd (true≢false (sym told.0 ∙ bad))
-
 pub due_good : (due : Option (List ℕ)) (good : Bool) (numbers : List ℕ) → MatchOption due (good ≡ false) (λ read. (good ≡ true) × (numbers ≡ read)) → good ≡ true → due ≡ Some numbers
 due_good None good numbers told is_good = absurd (true≢false (sym is_good ∙ told))
 due_good (Some read) good numbers told is_good = ap Some (sym told.1)
-
-pub due_some : {A : Type 0} (due : Option A) (good : Bool) (Is : A → Type 0) → MatchOption due (good ≡ false) (λ read. (good ≡ true) × Is read) → good ≡ true → (read : A) × (due ≡ Some read) × Is read
-due_some None good Is told is_good = absurd (true≢false (sym is_good ∙ told))
-due_some (Some read) good Is told is_good = (read, refl, told.1)
-
--- a line that is too long is none of the kind that is due, and tells no roster
-pub long_due : (book : BookView) (kind : LineKind) (line : List ℕ) → MOST_LINE < length line → due_numbers book kind line ≡ None
-long_due book kind line long = ap (λ n. cond (is_first kind && nat_le (2 ^ 28) book.quanta) None n) (cond-false _ _ _ (lt-leb (length line) MOST_LINE long)) ∙ no_choice (is_first kind && nat_le (2 ^ 28) book.quanta)
-
-pub long_roster : (book : BookView) (kind : LineKind) (shares_read : Bool) (line : List ℕ) → MOST_LINE < length line → due_roster book kind shares_read line ≡ None
-long_roster book kind shares_read line long = ap (λ r. cond (may_be_shares kind shares_read) r None) (cond-false _ _ _ (lt-leb (length line) MOST_LINE long)) ∙ no_choice (may_be_shares kind shares_read)
 
 pub audit_line_is : (state : AuditState) (line : List ℕ) (lines : List (List ℕ)) → audit_end state (line ∷ lines) ≡ audit_one state line (λ next. audit_end next lines)
 unfolding audit_end

@@ -22,7 +22,7 @@ use demand_book::{Book, QUANTA, Report};
 use far_io::{LineBuf, Sink, Source, WriteFault, WriteRoom, split_word};
 use karma_rule::Shape;
 use line_run::{LineTaker, run_lines};
-use quantum_text::{LineKind, parse_block_line, parse_shares_line};
+use quantum_text::{LineKind, SHARES_WORD, parse_block_line, parse_shares_line};
 use run_end::{DueLine, LineFault, MOST_LINE, Status, Why, put_last_line};
 use std::alloc::{AllocError, Global};
 
@@ -208,6 +208,15 @@ impl Audit {
         }
     }
 
+    // What is wrong with a line that wasn't taken, for a person: one of shares, where one may stand, tells no roster.
+    fn fault_of(&self, line: &[u8]) -> LineFault {
+        let (word, _) = split_word(line);
+        if word == SHARES_WORD && shares_may_stand(self.kind, self.shares_read) {
+            return LineFault::NoShares;
+        }
+        block_fault(self.kind, self.book.users(), line)
+    }
+
     // Takes a line of shares, where one may stand, and says whether this is one. Its roster is then the next quantum's.
     fn takes_shares(&mut self, line: &[u8]) -> bool
         requires auditing { IsAuditing self.old }
@@ -242,8 +251,7 @@ impl Audit {
         ensures ends { IfNone result (self.old.number < self.new.number) }
     {
         if !read_due(&self.book, self.kind, line, &mut self.read) {
-            let fault = block_fault(self.kind, self.book.users(), line);
-            return Some(self.bad_line(fault));
+            return Some(self.bad_line(self.fault_of(line)));
         }
         match self.kind {
             LineKind::Demand => {

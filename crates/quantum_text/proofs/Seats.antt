@@ -9,7 +9,7 @@ use Rattle.std.proofs.lemmas.List.Elements.{All-head, All-tail, All-from_recursi
 use Rattle.far_io.specs.Words.{words_of, HasNoSpace}
 use Rattle.far_io.proofs.WordLaws.{words_of-space, words_of-word, words_of_injective, decimal_one_word, no_space_by_test, HasNoSpace-append}
 use Rattle.karma_rule.specs.declared.row.Share.{Share}
-use Rattle.quantum_text.specs.Shares.{seat_word, seat_text, shares_text, HasNoColon, IsShare, IsSeat}
+use Rattle.quantum_text.specs.Shares.{seat_word, seat_text, shares_text, HasNoColon, IsToldShare, IsSeat}
 
 -- ---- colons
 no_colon_push : (bytes : List ℕ) (byte : ℕ) → AllByRecursion (λ b. b ≢ 58) bytes → byte ≢ 58 → AllByRecursion (λ b. b ≢ 58) (bytes ++ byte ∷ [])
@@ -46,10 +46,10 @@ no_dash [] ys same = both_ways (eqb (first_byte (45 ∷ [])) (first_byte (58 ∷
 no_dash (x ∷ xs) ys same = absurd (omega (arith, ap length same, length-append xs (58 ∷ ys)))
 
 -- ---- words
-pub fair_fits : (share : Share) → IsShare share → share.fair < 2 ^ 64
+pub fair_fits : (share : Share) → IsToldShare share → share.fair < 2 ^ 64
 fair_fits share is = omega (arith, is.fair)
 
-pub floor_fits : (share : Share) → IsShare share → share.floor < 2 ^ 64
+pub floor_fits : (share : Share) → IsToldShare share → share.floor < 2 ^ 64
 floor_fits share is = omega (arith, is.fair, is.floor)
 
 pub seat_word_injective : (x y : Option Share) → IsSeat x → IsSeat y → seat_word x ≡ seat_word y → x ≡ y

@@ -14,7 +14,8 @@ use Rattle.quantum_text.specs.declared.line_kind.LineKind.{LineKind}
 use Rattle.quantum_text.specs.declared.line_kind.LineKind.TheVariants.{Quantum, Demand, Slices, Credits}
 use Rattle.quantum_text.specs.LineKind.{word_of, limit_of, count_of, numbers_of, untold}
 use Rattle.quantum_text.specs.Spelled.{Spells}
-use Rattle.quantum_text.specs.Shares.{roster_of, shares_text, ended_shares, IsNewRoster, IsSharesLine, IsNoSharesLine, IsSeated}
+use Rattle.quantum_text.specs.Shares.{roster_of, shares_text, ended_shares, IsNewRoster, IsSharesLine}
+use Rattle.quantum_text.specs.Shares.{IsNoSharesLine, IsSeated}
 
 -- ---- one line
 -- a line of numbers without its line end: the kind's word, then a space and the decimal of each number
@@ -88,10 +89,11 @@ abbrev pub IsNoLineOf : Shape → List (Option Share) → BlockLine → List ℕ
 IsNoLineOf shape before Roster bytes = IsNoSharesLine shape before bytes
 IsNoLineOf shape before (Numbers kind) bytes = IsNoLine kind (length before) bytes
 
--- The report's lines are a block after one with these rows: no number is above its limit, and where it tells a roster, that is a new one. Else its users have the
--- shares of before.
+-- The report's lines are a block after one with these rows: no number is above its limit, and where it tells a
+-- roster, that is a new one. Else its users have the shares of before.
 pub record IsBlock (shape : Shape) (before : List Row) (report : Report) : Type 0 where
   pub users : length report.rows ≡ length before
   pub numbers : (kind : LineKind) → All (λ number. number ≤ limit_of kind) (numbers_of kind report)
-  pub told : OnTrue report.changed (IsNewRoster shape (map seat_of before) (roster_of report) × All IsSeated report.rows)
+  pub told : OnTrue report.changed (IsNewRoster shape (map seat_of before) (roster_of report)
+      × All IsSeated report.rows)
   pub untold : OnFalse report.changed (map untold report.rows ≡ map untold before)

@@ -1,5 +1,6 @@
 -- The line of a block that tells a roster.
-use Rattle.std.specs.Prelude.{◌≡◌, ◌≢◌, ℕ, ◌*◌, ◌≤◌, true, List, [], ◌∷◌, ◌++◌, length, map, All, IfSome, Some, None, codes}
+use Rattle.std.specs.Prelude.{◌≡◌, ◌≢◌, ℕ, ◌*◌, ◌≤◌, true, List, [], ◌∷◌, ◌++◌, length, map, All, IfSome, Some, None}
+use Rattle.std.specs.Prelude.{codes}
 use Rattle.std.specs.Fmt.{decimal}
 use Rattle.std.specs.Bool.{OnFalse}
 use Rattle.std.specs.List.{sum_by, flat_map}
@@ -38,14 +39,14 @@ shares_text roster = codes "shares" ++ flat_map seat_text roster
 unfoldable pub ended_shares : List (Option Share) → List ℕ
 ended_shares roster = shares_text roster ++ 10 ∷ []
 
--- within the limits of a share
-pub record IsShare (share : Share) : Type 0 where
+-- within the limits of a share that a line tells
+pub record IsToldShare (share : Share) : Type 0 where
   pub some : 1 ≤ share.fair
   pub fair : share.fair ≤ MOST_FAIR
   pub floor : share.floor ≤ share.fair
 
 abbrev pub IsSeat : Option Share → Type 0
-IsSeat seat = IfSome seat IsShare
+IsSeat seat = IfSome seat IsToldShare
 
 -- the words are those of these seats, so many
 abbrev pub AreSeats : ℕ → List (List ℕ) → List (Option Share) → Type 0
@@ -57,8 +58,8 @@ pub record SeatsTogether (users : ℕ) (words : List (List ℕ)) (total : ℕ) :
   pub are : AreSeats users words seats
   pub together : total ≡ sum_by fair_of_seat seats
 
--- A block may tell this roster after one with the roster `before`: it has a seat for each user, its fair shares are together no more than there are slices, and it
--- is another one.
+-- A block may tell this roster after one with the roster `before`: it has a seat for each user, its fair shares are
+-- together no more than there are slices, and it is another one.
 pub record IsNewRoster (shape : Shape) (before roster : List (Option Share)) : Type 0 where
   pub many : length roster ≡ length before
   pub within : All IsSeat roster
@@ -66,7 +67,8 @@ pub record IsNewRoster (shape : Shape) (before roster : List (Option Share)) : T
   pub another : roster ≢ before
 
 -- these bytes are the line of this roster, in a block after one with the roster `before`
-pub record IsSharesLine (shape : Shape) (before : List (Option Share)) (line : List ℕ) (roster : List (Option Share)) : Type 0 where
+pub record IsSharesLine (shape : Shape) (before : List (Option Share)) (line : List ℕ)
+    (roster : List (Option Share)) : Type 0 where
   pub spelled : line ≡ shares_text roster
   pub told : IsNewRoster shape before roster
 

@@ -13,5 +13,5 @@ mod write;
 pub use line_kind::LineKind;
 pub use parse::parse_block_line;
 pub use read::{ReportTextEnd, read_report};
-pub use shares::{parse_shares_line, put_shares_line};
+pub use shares::{SHARES_WORD, parse_shares_line, put_shares_line};
 pub use write::{put_block_line, write_report};

@@ -5,7 +5,7 @@ ghost use Rattle.std.specs.Option.{option_copied};
 ghost use Rattle.std.specs.declared.option.Option.{Option};
 ghost use Rattle.far_io.specs.Words.{words_after};
 ghost use Rattle.karma_rule.specs.declared.row.Share.{Share as AShare};
-ghost use Rattle.quantum_text.specs.Shares.{seat_word, HasNoColon, IsShare, IsSeat};
+ghost use Rattle.quantum_text.specs.Shares.{seat_word, HasNoColon, IsToldShare, IsSeat};
 
 use far_io::{parse_decimal, split_word};
 use karma_rule::{MOST_FAIR, Share};
@@ -43,8 +43,8 @@ fn split_colon(word: &[u8]) -> Option<(&[u8], &[u8])>
 /// The share that a word spells.
 fn parse_share(word: &[u8]) -> Option<Share>
     ensures spelled { IfSome result (λ share. word.now ≡ seat_word (Some share)) }
-    ensures within { IfSome result IsShare }
-    ensures none { IfNone result ((share : AShare) → IsShare share → word.now ≢ seat_word (Some share)) }
+    ensures within { IfSome result IsToldShare }
+    ensures none { IfNone result ((share : AShare) → IsToldShare share → word.now ≢ seat_word (Some share)) }
 {
     let (first, second) = split_colon(word)?;
     let fair = parse_decimal(first)?;

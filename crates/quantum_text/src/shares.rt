@@ -22,8 +22,8 @@ use karma_rule::{Row, Shape, Share};
 /// The most bytes of a space and a seat's word: two decimals and a colon.
 const SEAT_ROOM: usize = 42;
 
-/// The line's word.
-const WORD: &[u8] = b"shares";
+/// The word that the line begins with.
+pub const SHARES_WORD: &[u8] = b"shares";
 
 /// Puts a space and the seat's word.
 fn push_seat(piece: &mut Piece, seat: Option<Share>)
@@ -69,8 +69,8 @@ pub fn put_shares_line<O: Sink>(
         (piece.old ++ ended_shares (roster_of report.now))) }
     ensures cause { HasCause (O.faults sink.old) (O.faults sink.new) result }
 {
-    make_room(sink, piece, WORD.len())?;
-    piece.push_all(WORD);
+    make_room(sink, piece, SHARES_WORD.len())?;
+    piece.push_all(SHARES_WORD);
     put_seats(report.rows.items(), sink, piece)?;
     make_room(sink, piece, 1)?;
     piece.push(b'\n');
@@ -165,7 +165,7 @@ pub fn parse_shares_line(shape: Shape, line: &[u8], report: &mut Report) -> bool
     ensures kept { OnFalse result (report.new ≡ report.old) }
 {
     let (word, words) = split_word(line);
-    if word != WORD {
+    if word != SHARES_WORD {
         return false;
     }
     let Some(total) = total_fair(words, report.rows.items().len()) else {

@@ -42,6 +42,8 @@ pub enum LineFault {
     NoKind { word: u64 },
     /// This word is no escaped text.
     NoEscape { word: u64 },
+    /// Its word is `shares`, and it tells no roster that may stand here.
+    NoShares,
     /// Another line is due here.
     NotDue { due: DueLine },
     /// The input ends, and this line is missing.
@@ -61,6 +63,9 @@ impl fmt::Display for LineFault {
             LineFault::NoPath { word } => write!(f, "word {word} is no path"),
             LineFault::NoKind { word } => write!(f, "word {word} is no kind of structure"),
             LineFault::NoEscape { word } => write!(f, "word {word} is no escaped text"),
+            LineFault::NoShares => f.write_str(
+                "this line `shares` tells no roster that may stand here",
+            ),
             LineFault::NotDue { due } => write!(f, "a line `{due}` is due here"),
             LineFault::Missing { due } => write!(
                 f,
@@ -112,6 +117,8 @@ impl fmt::Display for ShapeLimit {
 pub enum WordsFault {
     /// There is no word.
     NoCommand,
+    /// This word isn't UTF-8.
+    NotUtf8 { word: u64 },
     /// The first word names no command.
     UnknownCommand,
     /// There are `found` words and should be `wanted`.
@@ -126,6 +133,7 @@ impl fmt::Display for WordsFault {
     fn fmt<W: fmt::Write>(&self, f: &mut fmt::Formatter<W>) -> fmt::Result {
         match self {
             WordsFault::NoCommand => f.write_str("there is no command"),
+            WordsFault::NotUtf8 { word } => write!(f, "word {word} is not UTF-8"),
             WordsFault::UnknownCommand => f.write_str("there is no such command"),
             WordsFault::WordCount { wanted, found } => {
                 write!(f, "words wanted: {wanted}, found: {found}")

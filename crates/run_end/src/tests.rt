@@ -55,6 +55,13 @@ fn whys_in_words(rt: HostRuntime) -> Result<(), Fail> {
             "bad words: words wanted: 5, found: 4",
         ),
         (
+            Why::BadWords {
+                fault: WordsFault::NotUtf8 { word: 2 },
+            },
+            2,
+            "bad words: word 2 is not UTF-8",
+        ),
+        (
             Why::BadLine {
                 number: 3,
                 fault: LineFault::AboveLimit { word: 2, limit: 9 },
@@ -71,6 +78,14 @@ fn whys_in_words(rt: HostRuntime) -> Result<(), Fail> {
             },
             3,
             "line 2 is bad: the input ends, and a line `slices` is missing",
+        ),
+        (
+            Why::BadLine {
+                number: 2,
+                fault: LineFault::NoShares,
+            },
+            3,
+            "line 2 is bad: this line `shares` tells no roster that may stand here",
         ),
         (Why::ReadFault, 4, "reading failed"),
         (Why::WriteFault, 5, "writing failed"),

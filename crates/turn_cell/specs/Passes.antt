@@ -90,16 +90,20 @@ module _ {E K : Type 0} where
     seen = v.seen;
   }
 
--- The pass made these asks, one after the other: it has so many calls less, and of its own calls these asks came to what it had seen.
-pub record MakesAsks {A E K : Type 0} (ask_of : E → A) (p : PassView E K) (asks : List A) (q : PassView E K) : Type 0 where
+-- The pass made these asks, one after the other: it has so many calls less, and of its own calls these asks came to
+-- what it had seen.
+pub record MakesAsks {A E K : Type 0} (ask_of : E → A) (p : PassView E K) (asks : List A)
+    (q : PassView E K) : Type 0 where
   pub same : q ≡ record p { left = p.left - length asks; seen = q.seen }
   pub begins : IsPrefix p.seen q.seen
   pub asked : asks_by ask_of p.number q.seen ≡ asks_by ask_of p.number p.seen ++ asks
 
-module _ {O A T E K : Type 0} (key_of : O → K) (stands : O → List E → Type 0) (moving : E → Bool) (moves : A → Bool) (entry : O → A → T → O → E) (answers : K → List E → A → T → Type 0) where
+module _ {O A T E K : Type 0} (key_of : O → K) (stands : O → List E → Type 0) (moving : E → Bool) (moves : A → Bool)
+    (entry : O → A → T → O → E) (answers : K → List E → A → T → Type 0) where
   -- the pass made the call, and has seen the history up to its entry
   abbrev pub Calls : PassView E K → A → T → List (Logged E) → Type 0
-  Calls p ask tell seen = AddsCall key_of stands moving moves entry answers p.cell.key p.number p.names p.may_move p.seen ask tell seen
+  Calls p ask tell seen =
+      AddsCall key_of stands moving moves entry answers p.cell.key p.number p.names p.may_move p.seen ask tell seen
 
 -- a cell's table has three words and one slot, and knows the cell's key
 pub record IsCell {K : Type 0} (table : TableId) (known key : K) : Type 0 where

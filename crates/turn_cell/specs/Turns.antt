@@ -1,7 +1,8 @@
--- The rule of a cell, and what each step at its table tells.
--- Word 0 counts the numbers of passes that were drawn, word 1 the tickets that were drawn, and word 2 is the ticket that is served, which is the length of the history.
+-- The rule of a cell, and what each step at its table tells. Word 0 counts the numbers of passes that were drawn,
+-- word 1 the tickets that were drawn, and word 2 is the ticket that is served, which is the length of the history.
 -- The slot holds the object, which stands for the history. Who has the ticket that is served alone may take it out.
-use Rattle.std.specs.Prelude.{◌≡◌, ◌≢◌, ℕ, ◌+◌, ◌-◌, ◌*◌, ◌^◌, ◌<◌, ◌≤◌, ◌⊎◌, ◌||◌, Bool, true, false, min, max, List, [], ◌∷◌, ◌++◌, length, Some, None}
+use Rattle.std.specs.Prelude.{◌≡◌, ◌≢◌, ℕ, ◌+◌, ◌-◌, ◌*◌, ◌^◌, ◌<◌, ◌≤◌, ◌⊎◌, ◌||◌, Bool, true, false, min, max}
+use Rattle.std.specs.Prelude.{List, [], ◌∷◌, ◌++◌, length, Some, None}
 use Rattle.std.specs.declared.option.Option.{Option as Maybe}
 use mathlib.Core.Option.{Option, none, some}
 use lib.ListN.{get_elem?}
@@ -71,7 +72,8 @@ module _ {E : Type 0} (moving : E → Bool) (history : List (Logged E)) (passes 
   Place (Joined a b) = Begins moving a seen × Begins moving b seen × Apart a b
 
 -- what a seat knows is so
-pub record Fits {E K : Type 0} (moving : E → Bool) (key : K) (history : List (Logged E)) (passes ticket : ℕ) (v : Knows E K) : Type 0 where
+pub record Fits {E K : Type 0} (moving : E → Bool) (key : K) (history : List (Logged E)) (passes ticket : ℕ)
+    (v : Knows E K) : Type 0 where
   pub of_key : (v.key ≡ None) ⊎ (v.key ≡ Some key)
   pub below : (n : ℕ) → In n v.names → n < passes
   pub low : (n : ℕ) → In n v.names → n < 2 ^ 30
@@ -116,7 +118,9 @@ total f (x ∷ xs) = f x + total f xs
 module _ {O A T E K : Type 0} (key_of : O → K) (stands : O → List E → Type 0) where
   -- the object is in the slot, and stands for the history
   abbrev pub AtHome : K → List (Logged E) → State (Slot O (LastCall O A T)) (Knows E K) → Type 0
-  AtHome key history s = (o : O) × (c : Maybe (LastCall O A T)) × (get_elem? s.homes 0 ≡ some (some (Here o c))) × (key_of o ≡ key) × stands o (entries history)
+  AtHome key history s =
+      (o : O) × (c : Maybe (LastCall O A T)) × (get_elem? s.homes 0 ≡ some (some (Here o c))) × (key_of o ≡ key)
+      × stands o (entries history)
 
   -- the object is with the seat whose ticket is served
   abbrev pub IsOut : List (Logged E) → State (Slot O (LastCall O A T)) (Knows E K) → Type 0
@@ -124,10 +128,12 @@ module _ {O A T E K : Type 0} (key_of : O → K) (stands : O → List E → Type
 
 -- the number was drawn by a pass with a lesser number
 abbrev pub Branch : {E K : Type 0} → List (Knows E K) → ℕ → Type 0
-Branch {E} {K} vs m = (j : ℕ) × (v : Knows E K) × (get_elem? vs j ≡ some v) × In m v.made × ((p : ℕ) × (p < m) × In p v.names)
+Branch {E} {K} vs m =
+    (j : ℕ) × (v : Knows E K) × (get_elem? vs j ≡ some v) × In m v.made × ((p : ℕ) × (p < m) × In p v.names)
 
 -- the rule, over the words, the slot and what all seats know
-pub record Kept {O A T E K : Type 0} (key_of : O → K) (stands : O → List E → Type 0) (moving : E → Bool) (key : K) (s : State (Slot O (LastCall O A T)) (Knows E K)) : Type 0 where
+pub record Kept {O A T E K : Type 0} (key_of : O → K) (stands : O → List E → Type 0) (moving : E → Bool) (key : K)
+    (s : State (Slot O (LastCall O A T)) (Knows E K)) : Type 0 where
   pub history : List (Logged E)
   pub passes : ℕ
   pub ticket : ℕ
@@ -137,25 +143,51 @@ pub record Kept {O A T E K : Type 0} (key_of : O → K) (stands : O → List E �
   pub calls : ticket + total calls_of s.views + 4294967296 * (2 ^ 30 - passes) ≤ 2 ^ 62
   pub draws : passes + total draws_of s.views + 2 * (2 ^ 30 - passes) ≤ 2 ^ 31
   pub seats : (j : ℕ) (v : Knows E K) → get_elem? s.views j ≡ some v → Fits moving key history passes ticket v
-  pub apart : (j k : ℕ) (v w : Knows E K) → get_elem? s.views j ≡ some v → get_elem? s.views k ≡ some w → OneTicket v w → j ≡ k
-  pub names : (j k : ℕ) (v w : Knows E K) → get_elem? s.views j ≡ some v → get_elem? s.views k ≡ some w → OneNumber v w → j ≡ k
-  pub rights : (j k : ℕ) (v w : Knows E K) → get_elem? s.views j ≡ some v → get_elem? s.views k ≡ some w → BothMove v w → j ≡ k
+  pub apart : (j k : ℕ) (v w : Knows E K) → get_elem? s.views j ≡ some v → get_elem? s.views k ≡ some w
+      → OneTicket v w → j ≡ k
+  pub names : (j k : ℕ) (v w : Knows E K) → get_elem? s.views j ≡ some v → get_elem? s.views k ≡ some w
+      → OneNumber v w → j ≡ k
+  pub rights : (j k : ℕ) (v w : Knows E K) → get_elem? s.views j ≡ some v → get_elem? s.views k ≡ some w
+      → BothMove v w → j ≡ k
   -- there is a seat with the right to move
   pub mover : (j : ℕ) × (v : Knows E K) × (get_elem? s.views j ≡ some v) × (v.may_move ≡ true)
   -- each number that names a pass was drawn by a pass that is there
   pub tree : (m : ℕ) → m < passes → m < 2 ^ 30 → (m ≡ 0) ⊎ Branch s.views m
   -- each entry is under a name of a pass that is there
-  pub owners : (l : Logged E) → In l history → (j : ℕ) × (v : Knows E K) × (get_elem? s.views j ≡ some v) × In l.by v.names
+  pub owners : (l : Logged E) → In l history → (j : ℕ) × (v : Knows E K) × (get_elem? s.views j ≡ some v)
+      × In l.by v.names
   pub home : AtHome key_of stands key history s ⊎ IsOut key_of stands history s
 
 module _ {E K : Type 0} where
   -- the first pass
   abbrev pub newcomer : K → Knows E K
-  newcomer key = record { key = Some key; number = 0; names = 0 ∷ []; made = []; found = 0; left = 4294967296; spare = 1; may_move = true; seen = []; stage = Idle }
+  newcomer key = record {
+    key = Some key;
+    number = 0;
+    names = 0 ∷ [];
+    made = [];
+    found = 0;
+    left = 4294967296;
+    spare = 1;
+    may_move = true;
+    seen = [];
+    stage = Idle;
+  }
 
   -- the pass that is made of a drawn number, and the pass that made it
   abbrev pub split_off : Knows E K → Knows E K
-  split_off v = record { key = v.key; number = number_in v.stage; names = number_in v.stage ∷ []; made = []; found = 0; left = 4294967296; spare = 1; may_move = false; seen = v.seen; stage = Idle }
+  split_off v = record {
+    key = v.key;
+    number = number_in v.stage;
+    names = number_in v.stage ∷ [];
+    made = [];
+    found = 0;
+    left = 4294967296;
+    spare = 1;
+    may_move = false;
+    seen = v.seen;
+    stage = Idle;
+  }
 
   abbrev pub split_from : Knows E K → Knows E K
   split_from v = record v { stage = Idle }
@@ -165,18 +197,48 @@ module _ {E K : Type 0} where
 
   -- two passes as one, and what is left of the second
   abbrev pub joined : Knows E K → Knows E K → Knows E K
-  joined v w = record v { names = v.names ++ w.names; made = v.made ++ w.made; found = max v.found w.found; left = min v.left w.left; may_move = v.may_move || w.may_move; seen = longer v.seen w.seen; stage = Joined (past v) (past w) }
+  joined v w = record v {
+    names = v.names ++ w.names;
+    made = v.made ++ w.made;
+    found = max v.found w.found;
+    left = min v.left w.left;
+    may_move = v.may_move || w.may_move;
+    seen = longer v.seen w.seen;
+    stage = Joined (past v) (past w);
+  }
 
   -- what a pass has seen, with no number, call or right
   abbrev pub note : Knows E K → Knows E K
-  note v = record { key = v.key; number = 0; names = []; made = []; found = 0; left = 0; spare = 0; may_move = false; seen = v.seen; stage = Idle }
+  note v = record {
+    key = v.key;
+    number = 0;
+    names = [];
+    made = [];
+    found = 0;
+    left = 0;
+    spare = 0;
+    may_move = false;
+    seen = v.seen;
+    stage = Idle;
+  }
 
   -- a pass that took in a note
   abbrev pub learned : Knows E K → Knows E K → Knows E K
   learned v w = record (joined v w) { left = v.left }
 
   abbrev pub spent : Knows E K
-  spent = record { key = None; number = 0; names = []; made = []; found = 0; left = 0; spare = 0; may_move = false; seen = []; stage = Idle }
+  spent = record {
+    key = None;
+    number = 0;
+    names = [];
+    made = [];
+    found = 0;
+    left = 0;
+    spare = 0;
+    may_move = false;
+    seen = [];
+    stage = Idle;
+  }
 
   -- what the first of these seats has seen
   abbrev pub seen_by : List (Knows E K) → List (Logged E)
@@ -191,27 +253,38 @@ pub record IsReady {S E K : Type 0} (me : Me S (Knows E K)) : Type 0 where
 
 module _ {O A T E K : Type 0} where
   -- the count of drawn numbers was looked at
-  abbrev pub counted : Step (Slot O (LastCall O A T)) → Me (Slot O (LastCall O A T)) (Knows E K) → ℕ → Me (Slot O (LastCall O A T)) (Knows E K) → Type 0
-  counted st m r m' = (m'.0 ≡ record m.0 { found = r }) × (m'.1 ≡ m.1) × (m.0.found ≤ r) × (r < 2 ^ 30 → (n : ℕ) → In n m.0.names → m.0.spare ≡ 1)
+  abbrev pub counted : Step (Slot O (LastCall O A T)) → Me (Slot O (LastCall O A T)) (Knows E K) → ℕ
+      → Me (Slot O (LastCall O A T)) (Knows E K) → Type 0
+  counted st m r m' = (m'.0 ≡ record m.0 { found = r }) × (m'.1 ≡ m.1) × (m.0.found ≤ r)
+      × (r < 2 ^ 30 → (n : ℕ) → In n m.0.names → m.0.spare ≡ 1)
 
   -- a number was drawn, which names a pass where it is below 2 ^ 30
-  abbrev pub numbered : Step (Slot O (LastCall O A T)) → Me (Slot O (LastCall O A T)) (Knows E K) → ℕ → Me (Slot O (LastCall O A T)) (Knows E K) → Type 0
+  abbrev pub numbered : Step (Slot O (LastCall O A T)) → Me (Slot O (LastCall O A T)) (Knows E K) → ℕ
+      → Me (Slot O (LastCall O A T)) (Knows E K) → Type 0
   numbered st m r m' =
       (m'.1 ≡ m.1) × (m.0.found ≤ r)
-      × (r < 2 ^ 30 → (m'.0 ≡ record m.0 { made = r ∷ m.0.made; found = r; stage = Drew r }) × (calls_by r m.0.seen ≡ []) × ((n : ℕ) → In n m.0.names ⊎ In n m.0.made → n < r))
+      × (r < 2 ^ 30 → (m'.0 ≡ record m.0 { made = r ∷ m.0.made; found = r; stage = Drew r })
+      × (calls_by r m.0.seen ≡ []) × ((n : ℕ) → In n m.0.names ⊎ In n m.0.made → n < r))
       × (2 ^ 30 ≤ r → m'.0 ≡ record m.0 { found = r; spare = 0 })
 
   -- the ticket was drawn
-  abbrev pub drew : Step (Slot O (LastCall O A T)) → Me (Slot O (LastCall O A T)) (Knows E K) → ℕ → Me (Slot O (LastCall O A T)) (Knows E K) → Type 0
+  abbrev pub drew : Step (Slot O (LastCall O A T)) → Me (Slot O (LastCall O A T)) (Knows E K) → ℕ
+      → Me (Slot O (LastCall O A T)) (Knows E K) → Type 0
   drew st m r m' = (m'.0 ≡ record m.0 { left = m.0.left - 1; stage = Waits r }) × (m'.1 ≡ m.1)
 
   -- what both had seen begins what is seen
-  abbrev pub settled : (E → Bool) → Step (Slot O (LastCall O A T)) → Me (Slot O (LastCall O A T)) (Knows E K) → ℕ → Me (Slot O (LastCall O A T)) (Knows E K) → Type 0
-  settled moving st m r m' = (a b : Past E) → m.0.stage ≡ Joined a b → (m'.0 ≡ record m.0 { stage = Idle }) × (m'.1 ≡ m.1) × Begins moving a m.0.seen × Begins moving b m.0.seen × Apart a b
+  abbrev pub settled : (E → Bool) → Step (Slot O (LastCall O A T)) → Me (Slot O (LastCall O A T)) (Knows E K) → ℕ
+      → Me (Slot O (LastCall O A T)) (Knows E K) → Type 0
+  settled moving st m r m' =
+      (a b : Past E) → m.0.stage ≡ Joined a b → (m'.0 ≡ record m.0 { stage = Idle }) × (m'.1 ≡ m.1)
+      × Begins moving a m.0.seen × Begins moving b m.0.seen × Apart a b
 
   -- the seat has learned what another has seen
-  abbrev pub Learns : (E → Bool) → Me (Slot O (LastCall O A T)) (Knows E K) → List (Logged E) → Me (Slot O (LastCall O A T)) (Knows E K) → Type 0
-  Learns moving m told m' = (m' ≡ (record m.0 { seen = longer m.0.seen told }, [])) × HasSeen moving m.0.names m.0.may_move m.0.seen m'.0.seen
+  abbrev pub Learns : (E → Bool) → Me (Slot O (LastCall O A T)) (Knows E K) → List (Logged E)
+      → Me (Slot O (LastCall O A T)) (Knows E K) → Type 0
+  Learns moving m told m' =
+      (m' ≡ (record m.0 { seen = longer m.0.seen told }, []))
+      × HasSeen moving m.0.names m.0.may_move m.0.seen m'.0.seen
 
 module _ {O A T E K : Type 0} (key_of : O → K) (stands : O → List E → Type 0) (moving : E → Bool) where
   -- the turn has come: the seat has seen the history whole, and has the object, which stands for it
@@ -219,18 +292,25 @@ module _ {O A T E K : Type 0} (key_of : O → K) (stands : O → List E → Type
   Holding t m m' =
       (m'.0 ≡ record m.0 { seen = m'.0.seen; stage = Holds t })
       × HasSeen moving m.0.names m.0.may_move m.0.seen m'.0.seen
-      × ((o : O) × (c : Maybe (LastCall O A T)) × (m'.1 ≡ (0, Here o c) ∷ []) × ((m.0.key ≡ None) ⊎ (m.0.key ≡ Some (key_of o))) × stands o (entries m'.0.seen))
+      × ((o : O) × (c : Maybe (LastCall O A T)) × (m'.1 ≡ (0, Here o c) ∷ [])
+      × ((m.0.key ≡ None) ⊎ (m.0.key ≡ Some (key_of o))) × stands o (entries m'.0.seen))
 
-  abbrev pub looked : Step (Slot O (LastCall O A T)) → Me (Slot O (LastCall O A T)) (Knows E K) → ℕ → Me (Slot O (LastCall O A T)) (Knows E K) → Type 0
+  abbrev pub looked : Step (Slot O (LastCall O A T)) → Me (Slot O (LastCall O A T)) (Knows E K) → ℕ
+      → Me (Slot O (LastCall O A T)) (Knows E K) → Type 0
   looked st m r m' = (t : ℕ) → m.0.stage ≡ Waits t → (r ≡ t → Holding t m m') × (r ≢ t → m' ≡ m)
 
 module _ {O A T E K : Type 0} (entry : O → A → T → O → E) where
   -- the call that lies in the slot was added to the history
-  abbrev pub served : Step (Slot O (LastCall O A T)) → Me (Slot O (LastCall O A T)) (Knows E K) → ℕ → Me (Slot O (LastCall O A T)) (Knows E K) → Type 0
+  abbrev pub served : Step (Slot O (LastCall O A T)) → Me (Slot O (LastCall O A T)) (Knows E K) → ℕ
+      → Me (Slot O (LastCall O A T)) (Knows E K) → Type 0
   served st m r m' = (o : O) (c : LastCall O A T) → m.1 ≡ (0, Here o (Some c)) ∷ []
-      → (m'.0 ≡ record m.0 { seen = m.0.seen ++ logged m.0.number (entry c.before.value c.ask.value c.tell.value o) ∷ []; stage = Idle }) × (m'.1 ≡ [])
+      → (m'.0 ≡ record m.0 {
+        seen = m.0.seen ++ logged m.0.number (entry c.before.value c.ask.value c.tell.value o) ∷ [];
+        stage = Idle;
+      }) × (m'.1 ≡ [])
 
-module _ {O A T E K : Type 0} (key_of : O → K) (stands : O → List E → Type 0) (moving : E → Bool) (moves : A → Bool) (entry : O → A → T → O → E) (answers : K → List E → A → T → Type 0) where
+module _ {O A T E K : Type 0} (key_of : O → K) (stands : O → List E → Type 0) (moving : E → Bool) (moves : A → Bool)
+    (entry : O → A → T → O → E) (answers : K → List E → A → T → Type 0) where
   -- the ask was applied to the object that is held, and the call lies beside it
   abbrev pub Applied : List (ℕ × Slot O (LastCall O A T)) → A → T → List (ℕ × Slot O (LastCall O A T)) → Type 0
   Applied cs ask tell ds =
