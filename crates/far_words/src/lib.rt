@@ -17,8 +17,8 @@ pub use blob::Blob;
 pub use moves::{Moves, PlacedRow};
 pub use part::Part;
 pub use path::Path;
-pub use request::{Kind, MOST_IN_FILE, MOST_IN_REQUEST, Outcome, Reply, Request};
-pub use stamp::{Found, ImageFault, Stamp};
+pub use request::{Kind, MOST_IN_FILE, MOST_IN_QUEUE, MOST_IN_REQUEST, Outcome, Reply, Request};
+pub use stamp::{Found, ImageFault, Stamp, Unfit};
 
 #[cfg(test)]
 mod tests;

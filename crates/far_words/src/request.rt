@@ -9,11 +9,16 @@ pub const MOST_IN_REQUEST: u64 = 65_536;
 /// The most bytes of a file, 2^40.
 pub const MOST_IN_FILE: u64 = 1 << 40;
 
+/// The most items of a queue, 2^40.
+pub const MOST_IN_QUEUE: u64 = 1 << 40;
+
 /// What a name stands for.
 #[derive(Clone, Copy, PartialEq, Eq, Debug)]
 pub enum Kind {
     /// Bytes that grow at their end.
     File,
+    /// Items, first in, first out.
+    Queue,
 }
 
 /// What a user asks of its own names.
@@ -27,6 +32,14 @@ pub enum Request {
     Read { path: Path, from: u64, len: u32 },
     /// The length of a file.
     Length { path: Path },
+    /// An item at the end of a queue.
+    Push { path: Path, item: Blob },
+    /// The first item of a queue, taken out.
+    Pop { path: Path },
+    /// The first item of a queue, left where it is.
+    Front { path: Path },
+    /// The items of a queue.
+    Count { path: Path },
     /// Every block of a name goes to the store, and frees its slice.
     Park { path: Path },
     /// Every block of a name comes into a slice.
@@ -39,6 +52,9 @@ pub enum Reply {
     Done,
     Number(u64),
     Bytes(Blob),
+    Item(Blob),
+    /// There is no item.
+    Nothing,
     /// A field of the request is longer than `limit`.
     TooLong { limit: u64 },
     /// The name, or the parent of a name that is to be made, isn't there.

@@ -40,3 +40,10 @@ pub enum Found {
     /// The right image, whose content isn't laid out as a block of its kind; `place` is the first byte that doesn't fit.
     Unfit { place: u32 },
 }
+
+/// Bytes that aren't laid out as a block of their kind; `place` is the count of bytes before the first item or record that isn't
+/// whole.
+#[derive(Clone, Copy, PartialEq, Eq, Debug)]
+pub struct Unfit {
+    pub place: u32,
+}
