@@ -15,9 +15,12 @@ use Rattle.block_home.specs.Homes.{room_of}
 use Rattle.block_home.specs.Calls.{CarriesWith}
 use Rattle.block_home.proofs.Held.{put_other}
 use Rattle.block_file.specs.Files.{file_in, HoldsBytes, IsSound}
-use Rattle.block_file.specs.Growth.{ComeIn, AddsBlocks, KeepsOthers, IsGrown}
-use Rattle.block_file.proofs.Appending.{All-front, grown_then}
-use Rattle.block_file.proofs.Growing.{adds-push, come-append, come-none}
+use Rattle.block_file.specs.Growth.{IsGrown}
+use Rattle.block_list.specs.Growth.{ComeIn, AddsBlocks}
+use Rattle.block_list.specs.Lists.{KeepsOthers}
+use Rattle.block_file.proofs.Appending.{grown_then}
+use Rattle.block_list.proofs.Listed.{All-front}
+use Rattle.block_list.proofs.Growing.{adds-push, come-append, come-none}
 use Rattle.block_file.proofs.Pieces.{take-split, ceil_step}
 use Rattle.block_file.proofs.Writing.{sound-none, grown-none, more_sound, more_grown}
 

@@ -1,26 +1,15 @@
 -- How the steps of an append fit together.
-use Rattle.std.proofs.Common.{◌≡◌, ◌≢◌, ℕ, ◌+◌, ◌-◌, ◌*◌, ◌<◌, ◌≤◌, List, ◌++◌, length, take, drop, get_or, min, sym, ap, ◌∙◌, inl, inr, arith}
+use Rattle.std.proofs.Common.{◌≡◌, ◌≢◌, ℕ, ◌+◌, ◌-◌, ◌*◌, ◌<◌, ◌≤◌, List, ◌++◌, length, take, drop, min, sym, ap, ◌∙◌, inl, inr, arith}
 use Rattle.std.specs.Prelude.{All}
 use Rattle.std.specs.Int.{div_ceil}
 use Rattle.std.proofs.lemmas.Bool.{cases_lt}
-use Rattle.std.proofs.lemmas.List.{get_or_append_left, get_or-append-add, length-append, take_all, append_assoc, take-append-drop, length-drop, length-take}
+use Rattle.std.proofs.lemmas.List.{take_all, append_assoc, take-append-drop, length-drop, length-take}
 use Rattle.shelf_link.specs.Blocks as map
 use Rattle.shelf_link.specs.Told.{Told}
 use Rattle.block_seats.specs.Seatings.{SeatingView}
 use Rattle.block_file.specs.Files.{FileView, new_blocks}
 use Rattle.block_file.specs.Growth.{IsGrown}
 use Rattle.block_file.proofs.Pieces.{ceil_rest}
-
--- a test passed by every block is passed by those at the front, and by those at the back
-pub All-front : (q : ℕ) (xs ys zs : List ℕ) → zs ≡ xs ++ ys → All (λ b. q ≢ b) zs → All (λ b. q ≢ b) xs
-All-front q xs ys zs parts apart = λ k d inside same.
-    apart k d (omega (arith, ap length parts, length-append xs ys))
-    (same ∙ sym (ap (λ l. get_or l k d) parts ∙ get_or_append_left xs ys d k inside))
-
-pub All-back : (q : ℕ) (xs ys zs : List ℕ) → zs ≡ xs ++ ys → All (λ b. q ≢ b) zs → All (λ b. q ≢ b) ys
-All-back q xs ys zs parts apart = λ k d inside same.
-    apart (length xs + k) d (omega (arith, ap length parts, length-append xs ys))
-    (same ∙ sym (ap (λ l. get_or l (length xs + k) d) parts ∙ get_or-append-add xs ys k d))
 
 -- the bytes that the last block has no room for need just the new blocks
 pub left_need : (size used filled : ℕ) (blocks bytes : List ℕ) → 0 < size → length blocks ≡ div_ceil used size → filled ≡ min (length bytes) (length blocks * size - used) → div_ceil (length (take (length bytes - filled) (drop filled bytes))) size ≡ new_blocks size used (length bytes)

@@ -13,6 +13,7 @@ use Rattle.std.proofs.lemmas.List.Quantifiers.{all_pairs_push}
 use Rattle.shelf_link.specs.Blocks as map
 use Rattle.block_seats.specs.Blocks.{Blocks, BlockView, InSlice, length_of}
 use Rattle.block_seats.specs.Seatings.{SeatingView}
+use Rattle.block_home.specs.Calls.{KeepsLengths}
 use Rattle.block_file.specs.Files.{FileView, HoldsBytes, IsSound}
 use Rattle.block_file.proofs.Pieces.{ceil_above, ceil_below, ceil_is, ceil_of_none}
 
@@ -171,4 +172,17 @@ sound-empty seats = record {
   count = sym (ceil_of_none seats.size);
   distinct = λ i j d before inside. absurd (omega arith);
   each = λ i inside. absurd (omega arith);
+}
+
+-- a file whose blocks are as long as they were is as sound as it was
+pub sound_kept : (file : FileView) (old new : SeatingView) → new.size ≡ old.size → KeepsLengths old new → IsSound old file → IsSound new file
+sound_kept file old new size_is kept sound = record {
+  count = sound.count ∙ ap (div_ceil file.length) (sym size_is);
+  distinct = sound.distinct;
+  each = λ i inside.
+      let is = sound.each i inside in
+      record {
+        there = kept.there (get_or file.blocks i 0) ∙ is.there;
+        long = kept.lengths (get_or file.blocks i 0) ∙ is.long ∙ ap (λ s. min s (file.length - i * s)) (sym size_is);
+      };
 }

@@ -17,10 +17,11 @@ use Rattle.block_home.specs.Calls.{IsLoaded}
 use Rattle.block_home.specs.declared.end.HomeEnd.{HomeEnd}
 use Rattle.block_home.proofs.Held.{put_other}
 use Rattle.block_file.specs.Files.{file_in, IsSound, needs_last, needed_last}
-use Rattle.block_file.specs.Growth.{ComeIn, KeepsOthers}
-use Rattle.block_file.proofs.Coming.{come_one}
-use Rattle.block_file.proofs.Going.{eq_true, eq_false}
-use Rattle.block_file.proofs.Growing.{come-none}
+use Rattle.block_list.specs.Growth.{ComeIn}
+use Rattle.block_list.specs.Lists.{KeepsOthers}
+use Rattle.block_list.proofs.Coming.{come_one}
+use Rattle.block_list.proofs.Listed.{eq_true, eq_false}
+use Rattle.block_list.proofs.Growing.{come-none}
 use Rattle.block_file.proofs.Holding.{length_in, long_piece, of_lengths, last_inside}
 
 less_true : (a b : ℕ) → a < b → nat_lt a b ≡ true

@@ -14,7 +14,7 @@ use Rattle.block_home.specs.Holding.{Holds}
 use Rattle.block_home.specs.Calls.{stamp_at}
 use Rattle.block_home.proofs.Held.{put_here, put_other}
 use Rattle.block_home.proofs.Shelved.{seated_held}
-use Rattle.block_file.specs.Files.{FileView, file_in, HoldsBytes, IsSound}
+use Rattle.block_file.specs.Files.{file_in, HoldsBytes, IsSound}
 use Rattle.block_file.specs.Growth.{IsGrown}
 use Rattle.block_file.proofs.Pieces.{piece-append, last-append, next-append, written_at_end}
 use Rattle.block_file.proofs.Holding.{AreBlocks, are_more, are_filled, bytes_piece, of_bytes, to_bytes, length_in, long_piece, of_lengths, to_lengths, last_ends, last_inside}

@@ -1,11 +1,10 @@
 -- What contracts see of a file, and the bytes that it stands for.
-use Rattle.std.specs.Prelude.{◌≡◌, ◌≢◌, ℕ, ◌+◌, ◌-◌, ◌*◌, ◌%◌, ◌<◌, ◌==◌, ◌&&◌, nat_lt, min, not, if◌then◌else◌, Bool, List, [], ◌∷◌, length, filter, slice_index, take, drop, AllPairs, Some, None}
+use Rattle.std.specs.Prelude.{◌≡◌, ◌≢◌, ℕ, ◌+◌, ◌-◌, ◌*◌, ◌%◌, ◌<◌, ◌==◌, ◌&&◌, nat_lt, min, not, if◌then◌else◌, Bool, List, [], ◌∷◌, length, slice_index, take, drop, AllPairs, Some}
 use Rattle.std.specs.Int.{div_ceil}
-use Rattle.slice_seq.specs.Purses.{Purse, has_block}
 use Rattle.slice_seq.specs.Needs.{is_last_parked, append_need}
 use Rattle.shelf_link.specs.Blocks as map
-use Rattle.block_seats.specs.Seatings.{SeatingView, HasBlock, IsSeated, length_at}
-use Rattle.block_home.specs.Calls.{stamp_at}
+use Rattle.block_seats.specs.Seatings.{SeatingView}
+use Rattle.block_list.specs.Lists.{IsLong}
 
 -- how many bytes a file has, and its blocks in their order
 pub record FileView : Type 0 where
@@ -31,22 +30,12 @@ pub record IsFile (size : ℕ) (m : map.Blocks) (file : FileView) (bytes : List 
   pub size_is : file.length ≡ length bytes
   pub holds : HoldsBytes size m file.blocks bytes
 
--- a block is there, wherever it is, and has so many bytes
-pub record IsLong (seats : SeatingView) (block len : ℕ) : Type 0 where
-  pub there : HasBlock seats block
-  pub long : length_at seats block ≡ len
-
 -- what stands of a file whatever a store holds: how many blocks it has and how long each is
 pub record IsSound (seats : SeatingView) (file : FileView) : Type 0 where
   pub count : length file.blocks ≡ div_ceil file.length seats.size
   pub distinct : AllPairs ◌≢◌ file.blocks
   pub each : (i : ℕ) → i < length file.blocks
       → IsLong seats (slice_index file.blocks i) (min seats.size (file.length - i * seats.size))
-
--- a block is in a slice, and so it has no stamp
-pub record IsInSlice (seats : SeatingView) (block : ℕ) : Type 0 where
-  pub seated : IsSeated seats block
-  pub unstamped : stamp_at seats.blocks block ≡ None
 
 -- how many blocks more a file of so many bytes has with so many more
 abbrev pub new_blocks : (size old more : ℕ) → ℕ
@@ -65,11 +54,3 @@ needs_last seats file more =
 abbrev pub needed_last : SeatingView → FileView → (more : ℕ) → List ℕ
 needed_last seats file more =
     if needs_last seats file more then slice_index file.blocks (length file.blocks - 1) ∷ [] else []
-
--- those of these blocks that are in no slice
-abbrev pub parked_of : Purse → List ℕ → List ℕ
-parked_of purse blocks = filter (λ block. not (has_block purse block)) blocks
-
--- and those that are in one
-abbrev pub seated_of : Purse → List ℕ → List ℕ
-seated_of purse blocks = filter (λ block. has_block purse block) blocks

@@ -2,20 +2,20 @@
 
 ghost use Rattle.std.specs.Prelude.{◌≡◌, ◌≢◌, ◌+◌, ◌-◌, ◌*◌, ◌%◌, ◌^◌, ◌<◌, ◌≤◌, ◌++◌, [], List, ℕ, min, length, take, drop, slice_index, vec_len, vec_capacity, IsTrue, IsErr, IfErr, OnOk, OnErr};
 ghost use Rattle.std.specs.Int.{div_ceil};
-ghost use Rattle.far_io.specs.Faults.{Follows, HasCause};
 ghost use Rattle.slice_seq.specs.Needs.{is_last_parked};
 ghost use Rattle.shelf_link.specs.Blocks as map;
-ghost use Rattle.shelf_link.specs.Told.{IsSameKind};
-ghost use Rattle.block_seats.specs.Seatings.{SeatingView, IsSeated, IsAlike};
 ghost use Rattle.block_home.specs.Homes.{room_of};
 ghost use Rattle.block_home.specs.Stored.{Causes, IsStoreEnd};
 ghost use Rattle.block_home.specs.Holding.{Holds};
-ghost use Rattle.block_home.specs.Calls.{Carries, KeepsLengths, stamp_at};
-ghost use Rattle.block_file.specs.Files.{file_in, HoldsBytes, IsSound, IsInSlice, new_blocks, needs_last, needed_last, parked_of, seated_of};
-ghost use Rattle.block_file.specs.Growth.{ComeIn, GoOut, AddsBlocks, KeepsOthers, IsGrown, without_all};
-ghost use Rattle.block_file.specs.Ends.{NamesBlock, IsNeverDamaged, ReadsParked};
+ghost use Rattle.block_home.specs.Calls.{Carries, KeepsLengths};
+ghost use Rattle.block_list.specs.Lists.{IsInSlice, KeepsOthers};
+ghost use Rattle.block_list.specs.Growth.{ComeIn, AddsBlocks};
+ghost use Rattle.block_list.specs.Ends.{NamesBlock, IsNeverDamaged};
+ghost use Rattle.block_file.specs.Files.{file_in, HoldsBytes, IsSound, new_blocks, needs_last, needed_last};
+ghost use Rattle.block_file.specs.Growth.{IsGrown};
+ghost use Rattle.block_file.specs.Ends.{ReadsParked};
 
-use block_home::{Home, HomeEnd, StoreFault};
+use block_home::{Home, HomeEnd};
 use shelf_link::Shelf;
 
 /// Whether the last block is in no slice.
@@ -200,90 +200,6 @@ pub(crate) fn read_blocks<K: Shelf>(
             &mut out[done..end],
         )?;
         done = end;
-    }
-    Ok(())
-}
-
-/// Ends these blocks, which hold `used` bytes.
-pub(crate) fn cut_blocks<K: Shelf>(blocks: &[u64], home: &mut Home<K>, used: u64)
-    requires { IsSound home.old.seats (file_in used blocks.now) }
-    ensures holds { (m : map.Blocks) → Holds m (K.told home.old.shelf) home.old.user home.old.seats.blocks
-        → Holds (without_all m blocks.now) (K.told home.new.shelf) home.old.user home.new.seats.blocks }
-    ensures blocks { home.new.seats.blocks ≡ without_all home.old.seats.blocks blocks.now }
-    ensures goes { GoOut blocks.now home.old.seats home.new.seats }
-    ensures follows { Follows (K.faults home.old.shelf) (K.faults home.new.shelf) }
-    ensures kind { IsSameKind (K.told home.old.shelf) (K.told home.new.shelf) }
-    ensures rest { home.new ≡ record home.old { seats = home.new.seats; shelf = home.new.shelf } }
-{
-    for block in blocks {
-        home.cut(*block);
-    }
-}
-
-/// Parks these blocks, which hold `used` bytes, one after the other, up to the first that the store doesn't take.
-pub(crate) fn park_blocks<K: Shelf>(
-    blocks: &[u64],
-    home: &mut Home<K>,
-    used: u64,
-) -> Result<(), StoreFault>
-    requires sound { IsSound home.old.seats (file_in used blocks.now) }
-    ensures holds { Carries home.old.user (K.told home.old.shelf) home.old.seats.blocks
-        (K.told home.new.shelf) home.new.seats.blocks }
-    ensures ok { OnOk result (GoOut (seated_of home.old.seats.purse blocks.now) home.old.seats home.new.seats) }
-    ensures err { OnErr result ((n : ℕ)
-        × GoOut (take n (seated_of home.old.seats.purse blocks.now)) home.old.seats home.new.seats) }
-    ensures lengths { KeepsLengths home.old.seats home.new.seats }
-    ensures others { KeepsOthers home.old.seats.blocks home.new.seats.blocks blocks.now }
-    ensures cause { HasCause (K.faults home.old.shelf) (K.faults home.new.shelf) result }
-    ensures kind { IsSameKind (K.told home.old.shelf) (K.told home.new.shelf) }
-    ensures rest { home.new ≡ record home.old { seats = home.new.seats; shelf = home.new.shelf } }
-{
-    for block in blocks {
-        home.park(*block)?;
-    }
-    Ok(())
-}
-
-/// How many of these blocks are in no slice.
-pub(crate) fn count_parked<K: Shelf>(blocks: &[u64], home: &Home<K>) -> u64
-    ensures { result ≡ length (parked_of home.now.seats.purse blocks.now) }
-{
-    let mut count = 0;
-    for block in blocks {
-        if home.place(*block).is_none() {
-            count += 1;
-        }
-    }
-    count
-}
-
-/// Brings those of these blocks into slices that are in none, one after the other, up to the first that the store
-/// doesn't give. They hold `used` bytes.
-pub(crate) fn load_blocks<K: Shelf>(
-    blocks: &[u64],
-    home: &mut Home<K>,
-    used: u64,
-) -> Result<(), HomeEnd>
-    requires sound { IsSound home.old.seats (file_in used blocks.now) }
-    requires room { length (parked_of home.old.seats.purse blocks.now) ≤ room_of home.old.seats }
-    ensures holds { Carries home.old.user (K.told home.old.shelf) home.old.seats.blocks
-        (K.told home.new.shelf) home.new.seats.blocks }
-    ensures ok { OnOk result (ComeIn (parked_of home.old.seats.purse blocks.now) home.old.seats home.new.seats) }
-    ensures err { OnErr result ((n : ℕ)
-        × ComeIn (take n (parked_of home.old.seats.purse blocks.now)) home.old.seats home.new.seats) }
-    ensures lengths { KeepsLengths home.old.seats home.new.seats }
-    ensures others { KeepsOthers home.old.seats.blocks home.new.seats.blocks blocks.now }
-    ensures told { K.told home.new.shelf ≡ K.told home.old.shelf }
-    ensures rest { home.new ≡ record home.old { seats = home.new.seats; shelf = home.new.shelf } }
-    ensures ends { IfErr result IsStoreEnd }
-    ensures cause { Causes (K.faults home.old.shelf) (K.faults home.new.shelf) result }
-    ensures names { NamesBlock home.old.seats blocks.now result }
-    ensures telling { IsNeverDamaged (K.told home.old.shelf) home.old.user home.old.seats result }
-    ensures void { IsTrue (K.told home.old.shelf).void → 0 < length (parked_of home.old.seats.purse blocks.now)
-        → IsErr result }
-{
-    for block in blocks {
-        home.load(*block)?;
     }
     Ok(())
 }

@@ -17,11 +17,9 @@ ghost use Rattle.block_home.specs.Stored.{Causes, IsStoreEnd};
 ghost use Rattle.block_home.specs.Holding.{Holds};
 ghost use Rattle.block_home.specs.Calls.{Carries, KeepsLengths};
 
-use crate::blocks::{
-    add_blocks, count_parked, cut_blocks, ends_parked, extend_blocks, load_blocks, load_last,
-    park_blocks, read_blocks,
-};
+use crate::blocks::{ends_parked, extend_blocks, load_last, read_blocks};
 use block_home::{Home, HomeEnd, StoreFault};
+use block_list::{count_parked, cut_blocks, load_prepared, park_blocks};
 use far_words::Blob;
 use shelf_link::Shelf;
 use std::alloc::Global;
@@ -49,9 +47,12 @@ impl Model for FileBody {
 }
 
 impl FileBody {
-    ghost use Rattle.block_file.specs.Files.{FileView, IsFile, IsSound, empty_file, need_of, needs_last, needed_last, parked_of, seated_of};
-    ghost use Rattle.block_file.specs.Growth.{ComeIn, GoOut, Grows, KeepsOthers, IsGrown, without_all};
-    ghost use Rattle.block_file.specs.Ends.{IsFileEnd, NamesBlock, IsNeverDamaged, ReadsParked};
+    ghost use Rattle.block_list.specs.Lists.{KeepsOthers, parked_of, seated_of, without_all};
+    ghost use Rattle.block_list.specs.Growth.{ComeIn, GoOut, Grows};
+    ghost use Rattle.block_list.specs.Ends.{IsPreparedEnd, NamesBlock, IsNeverDamaged};
+    ghost use Rattle.block_file.specs.Files.{FileView, IsFile, IsSound, empty_file, need_of, needs_last, needed_last};
+    ghost use Rattle.block_file.specs.Growth.{IsGrown};
+    ghost use Rattle.block_file.specs.Ends.{ReadsParked};
 
     /// A file without bytes, which needs no block.
     pub fn new(alloc: Global) -> FileBody
@@ -119,7 +120,7 @@ impl FileBody {
 
         ensures seats_stay { OnErr result (home.new.seats ≡ home.old.seats) }
         ensures file_stays { OnErr result (self.new ≡ self.old) }
-        ensures ends { IfErr result IsFileEnd }
+        ensures ends { IfErr result IsPreparedEnd }
         ensures cause { Causes (K.faults home.old.shelf) (K.faults home.new.shelf) result }
         ensures names { NamesBlock home.old.seats self.old.blocks result }
         ensures telling { IsNeverDamaged (K.told home.old.shelf) home.old.user home.old.seats result }
@@ -159,7 +160,7 @@ impl FileBody {
         ensures file_stays { self.new ≡ self.old }
         ensures sound { IsSound home.new.seats self.new }
 
-        ensures ends { IfErr result IsFileEnd }
+        ensures ends { IfErr result IsPreparedEnd }
         ensures cause { Causes (K.faults home.old.shelf) (K.faults home.new.shelf) result }
         ensures names { NamesBlock home.old.seats self.old.blocks result }
         ensures telling { IsNeverDamaged (K.told home.old.shelf) home.old.user home.old.seats result }
@@ -191,7 +192,7 @@ impl FileBody {
         ensures kind { IsSameKind (K.told home.old.shelf) (K.told home.new.shelf) }
         ensures rest { home.new ≡ record home.old { seats = home.new.seats; shelf = home.new.shelf } }
     {
-        cut_blocks(&self.blocks, home, self.length);
+        cut_blocks(home, &self.blocks);
         self.blocks.clear();
         self.length = 0;
     }
@@ -213,14 +214,14 @@ impl FileBody {
         ensures kind { IsSameKind (K.told home.old.shelf) (K.told home.new.shelf) }
         ensures rest { home.new ≡ record home.old { seats = home.new.seats; shelf = home.new.shelf } }
     {
-        park_blocks(&self.blocks, home, self.length)
+        park_blocks(home, &self.blocks)
     }
 
     /// How many of the file's blocks are parked: so many slices a load of them needs.
     pub fn need_to_load<K: Shelf>(&self, home: &Home<K>) -> u64
         ensures { result ≡ length (parked_of home.now.seats.purse self.now.blocks) }
     {
-        count_parked(&self.blocks, home)
+        count_parked(home, &self.blocks)
     }
 
     /// Brings the file's parked blocks into slices, in their order. The home has room for them: see
@@ -248,6 +249,6 @@ impl FileBody {
         ensures void { IsTrue (K.told home.old.shelf).void → 0 < length (parked_of home.old.seats.purse self.now.blocks)
             → IsErr result }
     {
-        load_blocks(&self.blocks, home, self.length)
+        load_prepared(home, &self.blocks)
     }
 }

@@ -1,20 +1,16 @@
 //! The home.
-ghost use Rattle.std.specs.Prelude.{◌≡◌, ℕ, List, ◌==◌, ◌↔◌, if◌then◌else◌, ◌⊎◌, ◌+◌, ◌≤◌, ◌<◌, [], length, is_some, take, drop, IsTrue, IsSome, IsOk, IsErr, IfOk, IfErr, OnOk, OnErr, IsOkUnless, Some, None, true, false, Ok, Err};
+ghost use Rattle.std.specs.Prelude.{◌≡◌, ℕ, ◌==◌, if◌then◌else◌, ◌⊎◌, ◌+◌, ◌≤◌, ◌<◌, [], length, is_some, take, drop, IsTrue, IsOk, IsErr, IfOk, IfErr, OnOk, OnErr, IsOkUnless, Some, None, false, Ok, Err};
 ghost use Rattle.std.specs.Ordering.{nat_cmp};
-ghost use Rattle.std.specs.FinMap.{find, put};
-ghost use Rattle.std.specs.List.Sorted.{IsStrictlySortedBy};
-ghost use Rattle.std.specs.Map.{keys_of};
-ghost use Rattle.std.specs.Option.{option_map};
+ghost use Rattle.std.specs.FinMap.{put};
 ghost use Rattle.far_io.specs.Faults.{Follows, HasCause};
 ghost use Rattle.slice_seq.specs.Slice.{raised};
 ghost use Rattle.slice_seq.specs.Used.{written_at};
-ghost use Rattle.block_image.specs.Images.{stamp_for};
 ghost use Rattle.shelf_link.specs.Told.{IsSameKind, is_sure};
 ghost use Rattle.block_seats.specs.Tables.{without};
-ghost use Rattle.block_seats.specs.Blocks.{InSlice, InStore, block_at, was_put};
-ghost use Rattle.block_seats.specs.Purses.{next_place, with_block, without_block, place_of, block_in};
+ghost use Rattle.block_seats.specs.Blocks.{InSlice, block_at, was_put};
+ghost use Rattle.block_seats.specs.Purses.{next_place, with_block, without_block, place_of};
 ghost use Rattle.block_seats.specs.Noted.{no_moves, noting_placed, noting_freed};
-ghost use Rattle.block_seats.specs.Seatings.{SeatingView, HasBlock, IsSeated, bytes_at, length_at, granted_of, used_of, open_of, spare_of, IsAlike, empty_seating, can_hold, with_slice, with_stray, IsNewNumber};
+ghost use Rattle.block_seats.specs.Seatings.{HasBlock, IsSeated, bytes_at, length_at, granted_of, used_of, open_of, IsAlike, empty_seating, can_hold, with_slice, with_stray, IsNewNumber};
 ghost use Rattle.block_home.specs.Homes.{HomeView, room_of};
 ghost use Rattle.block_home.specs.Stored.{Causes, IsStoreEnd};
 ghost use Rattle.block_home.specs.Holding.{Holds};
@@ -23,13 +19,14 @@ ghost use Rattle.block_home.specs.Calls.{Carries, CarriesWith, CarriesWithout, I
 use crate::end::{HomeEnd, StoreFault};
 use crate::stored::{fetch_image, put_image, remove_image};
 use block_image::HEAD;
-use block_seats::{HomeMoves, Seating};
+use block_seats::Seating;
 use far_io::Failed;
 use shelf_link::Shelf;
 use slice_seq::Slice;
 use std::alloc::{AllocError, Global};
 use std::marker::Model;
 
+mod told;
 mod yields;
 
 /// The blocks of one user, each in a slice that the user holds or parked in the user's store.
@@ -110,7 +107,8 @@ impl<K: Shelf> Home<K> {
         }
     }
 
-    /// Makes a block of these bytes and places it. The block's number is the lowest that names no block.
+    /// Makes a block of these bytes and places it. The block's number is the lowest that names no block: see
+    /// [`next_number`](Home::next_number).
     pub fn add(&mut self, bytes: &[u8]) -> u64
         requires room { 1 ≤ room_of self.old.seats }
         requires some { 1 ≤ length bytes.now }
@@ -284,92 +282,6 @@ impl<K: Shelf> Home<K> {
         ensures rest { self.new ≡ record self.old { seats = self.new.seats } }
     {
         self.seats.grant(slice);
-    }
-
-    /// Whether a number names a block.
-    pub fn has(&self, block: u64) -> bool
-        ensures { result ≡ is_some (find nat_cmp block self.now.seats.blocks) }
-    {
-        self.seats.has(block)
-    }
-
-    /// How many bytes a block has, wherever it is.
-    pub fn length(&self, block: u64) -> u32
-        requires { HasBlock self.now.seats block }
-        ensures value { result ≡ length_at self.now.seats block }
-        ensures some { 1 ≤ result }
-        ensures limit { result ≤ self.now.seats.size }
-    {
-        self.seats.length(block)
-    }
-
-    /// The slice that a block lies in, and the slice's number. None where there is no such block, or it is parked.
-    pub fn place(&self, block: u64) -> Option<(u32, u64)>
-        ensures place { result ≡ place_of self.now.seats.purse block }
-        ensures there { IsSome result → HasBlock self.now.seats block }
-        ensures unstamped { IsSome result → stamp_at self.now.seats.blocks block ≡ None }
-    {
-        self.seats.place(block)
-    }
-
-    /// The block that lies in a slice, and the slice's number. None where no block does.
-    pub fn block_at(&self, slice: u32) -> Option<(u64, u64)>
-        ensures { result ≡ block_in self.now.seats.purse slice }
-    {
-        self.seats.block_at(slice)
-    }
-
-    /// The number of a held slice. None where none of that id is held.
-    pub fn number(&self, slice: u32) -> Option<u64>
-        ensures { result ≡ option_map (λ held. held.number) (find nat_cmp slice self.now.seats.purse) }
-    {
-        self.seats.number(slice)
-    }
-
-    /// How many bytes a block has at most.
-    pub fn size(&self) -> u32
-        ensures value { result ≡ self.now.seats.size }
-        ensures some { 1 ≤ self.now.seats.size }
-        ensures limit { self.now.seats.size ≤ 65536 }
-    {
-        self.seats.size()
-    }
-
-    /// How many of the held slices can't take a block: those with one, and the worn ones.
-    pub fn used(&self) -> u32
-        ensures { result ≡ used_of self.now.seats }
-    {
-        self.seats.used()
-    }
-
-    /// How many slices are held.
-    pub fn granted(&self) -> u32
-        ensures { result ≡ granted_of self.now.seats }
-    {
-        self.seats.granted()
-    }
-
-    /// How many new blocks can be placed without memory.
-    pub fn room(&self) -> u32
-        ensures value { result ≡ room_of self.now.seats }
-        ensures ordered { IsStrictlySortedBy nat_cmp (keys_of self.now.seats.purse) }
-    {
-        self.seats.open().min(self.seats.spare())
-    }
-
-    /// Whether as many slices are held as the home has room for. While none is kept aside, no slice can be held then.
-    pub fn is_full(&self) -> bool
-        ensures full { IsTrue result ↔ (self.now.seats.slices ≤ granted_of self.now.seats) }
-        ensures open { (slice : ℕ) → IsTrue (can_hold self.now.seats slice) → self.now.seats.strays ≡ 0 → result ≡ false }
-    {
-        self.seats.is_full()
-    }
-
-    /// The moves since they were cleared last.
-    pub fn moves(&self) -> &HomeMoves
-        ensures { result.now ≡ self.now.seats.moves }
-    {
-        self.seats.moves()
     }
 
     /// Forgets the moves.

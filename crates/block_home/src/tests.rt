@@ -85,7 +85,7 @@ fn parks_and_loads(rt: HostRuntime) -> Result<(), Fail> {
     let mut home = new_home(&rt, rt.alloc(), ShelfMem::new(rt.alloc(), fails))?;
     assert_eq!(rt; add(&rt, &mut home, b"ab"), 0);
     assert_eq!(rt; add(&rt, &mut home, b"c"), 1);
-    assert_eq!(rt; home.room(), 0);
+    assert_eq!(rt; (home.room(), home.next_number()), (0, 2));
     assert_eq!(rt; park(&rt, &mut home, 0), Ok(()));
     assert_eq!(rt; (home.place(0), home.place(1)), (None, Some((1, 2))));
     assert_eq!(rt; (home.used(), home.room()), (1, 0));
@@ -104,6 +104,7 @@ fn parks_and_loads(rt: HostRuntime) -> Result<(), Fail> {
     assert_eq!(rt; home.place(0), Some((1, 3)));
     cut(&rt, &mut home, 1);
     assert!(rt; !home.has(1));
+    assert_eq!(rt; home.next_number(), 1);
     Ok(())
 }
 

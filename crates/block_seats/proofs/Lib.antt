@@ -1,5 +1,3 @@
--- tables, seen as finite maps
-pub mod Tables
 -- a table of held slices, seen as a purse
 pub mod Purses
 -- a table of slices and one of blocks, which name each other

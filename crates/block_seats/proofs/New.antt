@@ -10,7 +10,7 @@ use Rattle.block_seats.specs.declared.cell.Cell.TheVariants.{Vacant}
 use Rattle.block_seats.specs.Tables.{entries_from, entries_of}
 use Rattle.block_seats.specs.Seats.{held_in, view_in, block_of, slice_of, is_vacant, is_stray, purse_of, blocks_of, strays_of}
 use Rattle.block_seats.specs.Well.{CellFits, AreTables}
-use Rattle.block_seats.proofs.Tables.{entries-replicate}
+use Rattle.id_set.proofs.Tables.{entries-replicate}
 
 pub map-replicate : {X Y : Type 0} (f : X → Y) (n : ℕ) (x : X) → map f (replicate n x) ≡ replicate n (f x)
 map-replicate f zero x = refl

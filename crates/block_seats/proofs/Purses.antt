@@ -3,7 +3,7 @@ use Rattle.std.proofs.Common.{◌≡◌, ℕ, zero, suc, ◌+◌, ◌<◌, Bool,
 use Rattle.std.specs.declared.option.Option.{Option}
 use Rattle.std.specs.Option.{option_map_or}
 use Rattle.std.proofs.lemmas.List.Sums.{length-filter}
-use Rattle.block_seats.proofs.Tables.{count_by-entries}
+use Rattle.id_set.proofs.Tables.{count_by-entries}
 use Rattle.block_seats.specs.Tables.{entries_from, entries_of}
 use Rattle.slice_seq.specs.Purses.{Held, Purse, is_used, open_slices, holds, has_block}
 use Rattle.block_seats.specs.Purses.{lowest, place_of}

@@ -25,7 +25,7 @@ use Rattle.slice_seq.specs.Idle.{is_idle, idle_slices, seated_slices}
 use Rattle.block_seats.specs.Purses.{next_place, next_idle, first_block, place_of, block_in}
 use Rattle.block_seats.specs.Seats.{held_in, block_of, slice_of, view_in, is_open, is_empty, is_busy, is_stray, keeps_slice, purse_of, blocks_of, strays_of, slice_in, used_in, put_in, is_vacant}
 use Rattle.block_seats.specs.Well.{AreTables}
-use Rattle.block_seats.proofs.Tables.{find-entries, length-entries, count_by-cons, count_by-map}
+use Rattle.id_set.proofs.Tables.{find-entries, length-entries, count_by-cons, count_by-map}
 use Rattle.block_seats.proofs.Purses.{passes, open_at, holds_at, lowest_passing, length-passing, lowest_none, length-open, lowest-open, place-entries, no_place-entries}
 
 -- counts

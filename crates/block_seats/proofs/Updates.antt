@@ -19,7 +19,7 @@ use Rattle.std.specs.FinMap.{put}
 use Rattle.std.specs.Ordering.{nat_cmp}
 use Rattle.block_seats.specs.Tables.{entries_of, without}
 use Rattle.slice_seq.specs.Purses.{Held, open_slices}
-use Rattle.block_seats.proofs.Tables.{length-entries, count_by-map, count_by-set, entries-set_some, entries-set_none}
+use Rattle.id_set.proofs.Tables.{length-entries, count_by-map, count_by-set, entries-set_some, entries-set_none}
 use Rattle.block_seats.proofs.Seats.{length-open_purse, same_or_not, within_by, seat_names, cell_names, first_of_pair, second_of_pair}
 
 abbrev pub one_if : Bool → ℕ

@@ -25,7 +25,7 @@ use Rattle.block_seats.specs.Purses.{lowest, next_place, next_idle, first_block,
 use Rattle.block_seats.specs.Seats.{blocks_of, view_in, put_in, purse_of, strays_of, used_in, slice_of, slice_in, is_open, is_empty, is_busy, keeps_slice, is_vacant, is_stray, block_of, held_in}
 use Rattle.block_seats.specs.Seatings.{SeatingView, open_of, spare_of, granted_of, can_hold, IsNewNumber}
 use Rattle.block_seats.specs.Well.{view_of, CellFits, IsWell}
-use Rattle.block_seats.proofs.Tables.{count_by-map, position_none, position_there}
+use Rattle.id_set.proofs.Tables.{count_by-map, position_none, position_there}
 use Rattle.block_seats.proofs.Purses.{passes, none_passing}
 use Rattle.block_seats.proofs.Seats.{cell_there, cell_within, has_cell, has_within, block_seen, seated_there, length-blocks, place_is, find-purse, within_by, next_is, length-open_purse, length-purse, find-blocks, first_of_pair, second_of_pair, no_idle, no_block, first_block_is, seat_names, cell_names}
 use Rattle.block_seats.proofs.Updates.{one_if, lends, lends_within}
@@ -104,6 +104,16 @@ no_stray seats id low zero_is none = by (get_or seats id Empty) refl none
     by (Stray slice) e n =
         let some : cond (is_stray (get_or seats id Empty)) 1 0 ≤ count_by is_stray seats = get_or-le-sum_by (λ s. cond (is_stray s) 1 0) seats id Empty low in
         let one : one_if (is_stray (get_or seats id Empty)) ≡ 1 = ap (λ s. one_if (is_stray s)) e in
+        absurd (omega arith)
+
+no_vacant : (cells : List Cell) (block : ℕ) → block < length cells → count_by is_vacant cells ≡ 0 → is_vacant (get_or cells block Vacant) ≡ false
+no_vacant cells block low zero_is = by (is_vacant (get_or cells block Vacant)) refl
+  where
+    by : (b : Bool) → is_vacant (get_or cells block Vacant) ≡ b → b ≡ false
+    by false e = refl
+    by true e =
+        let some : cond (is_vacant (get_or cells block Vacant)) 1 0 ≤ count_by is_vacant cells = get_or-le-sum_by (λ s. cond (is_vacant s) 1 0) cells block Vacant low in
+        let one : one_if (is_vacant (get_or cells block Vacant)) ≡ 1 = ap one_if e in
         absurd (omega arith)
 
 both_hold : (a b : Bool) → (a && b) ≡ true → (a ≡ true) × (b ≡ true)
@@ -235,10 +245,36 @@ module _ (seating : Inside) (v : SeatingView) (is : view_of seating ≡ v) (well
         (sym (get_or-map is_vacant seating.cells.items lower Vacant) ∙ (position-Some (λ (b : Bool). b) (map is_vacant seating.cells.items) block true (first_vacant block e)).2 lower low);
   }
 
+  vacant_none : position (λ (b : Bool). b) seating.vacant_cells ≡ None → count_by is_vacant seating.cells.items ≡ 0
+  vacant_none none =
+      sym (count_by-map (λ (b : Bool). b) is_vacant seating.cells.items)
+      ∙ position_none (λ (b : Bool). b) (map is_vacant seating.cells.items) (ap (λ (f : List Bool). position (λ (b : Bool). b) f) (sym well.vacant_are) ∙ none)
+
+  -- where none is vacant, the number after all
+  pub full_number : position (λ (b : Bool). b) seating.vacant_cells ≡ None → IsNewNumber v (length seating.vacant_cells)
+  full_number none = record {
+    fresh = gone (find nat_cmp (length seating.vacant_cells) v.blocks) refl;
+    least = λ lower low.
+        let within : lower < length seating.cells.items = let all : length seating.vacant_cells ≡ length seating.cells.items = ap (λ (f : List Bool). length f) well.vacant_are ∙ length-map seating.cells.items is_vacant in omega arith in
+        ap (λ bs. is_some (find nat_cmp lower bs)) (sym blocks_in) ∙ ap is_some (find-blocks seating.cells.items lower)
+        ∙ taken_is (get_or seating.cells.items lower Vacant) (no_vacant seating.cells.items lower within (vacant_none none));
+  }
+    where
+      gone : (o : Option BlockView) → find nat_cmp (length seating.vacant_cells) v.blocks ≡ o → o ≡ None
+      gone None e = refl
+      gone (Some view) e =
+          let within = there_low (length seating.vacant_cells) (ap is_some e) in
+          absurd (let all : length seating.vacant_cells ≡ length seating.cells.items = ap (λ (f : List Bool). length f) well.vacant_are ∙ length-map seating.cells.items is_vacant in omega arith)
+
+  pub new_nowhere : (block : ℕ) → IsNewNumber v block → place_of v.purse block ≡ None
+  new_nowhere block number = by (place_of v.purse block) refl
+    where
+      by : (o : Option (ℕ × ℕ)) → place_of v.purse block ≡ o → o ≡ None
+      by None e = refl
+      by (Some place) e = let there = seated_is_there block (ap is_some e) in let fresh = number.fresh in cc
+
   pub some_vacant : 1 ≤ spare_of v → position (λ (b : Bool). b) seating.vacant_cells ≡ None → ⊥
-  some_vacant some none =
-      let vacant_count : count_by (λ (b : Bool). b) (map is_vacant seating.cells.items) ≡ count_by is_vacant seating.cells.items = count_by-map (λ (b : Bool). b) is_vacant seating.cells.items in
-      position_there (λ (b : Bool). b) (map is_vacant seating.cells.items) (omega (arith, spare_is)) (ap (λ (f : List Bool). position (λ (b : Bool). b) f) (sym well.vacant_are) ∙ none)
+  some_vacant some none = let nothing = vacant_none none in omega (arith, spare_is)
 
   -- the first empty seat
 

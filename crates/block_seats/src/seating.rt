@@ -110,7 +110,8 @@ impl Seating {
         Ok(())
     }
 
-    /// Makes a block of these bytes and places it. The block's number is the lowest that names no block.
+    /// Makes a block of these bytes and places it. The block's number is the lowest that names no block: see
+    /// [`next_number`](Seating::next_number).
     pub fn add(&mut self, bytes: &[u8]) -> u64
         requires open { 1 ≤ open_of self.old }
         requires number { 1 ≤ spare_of self.old }
@@ -125,10 +126,7 @@ impl Seating {
         ensures moves { self.new.moves ≡ noting_placed self.old.moves (next_place self.old.purse) result }
         ensures rest { IsAlike self.old self.new }
     {
-        let Some(block) = self.vacant_cells.first() else {
-            unreachable!()
-        };
-        let block = u64::from(block);
+        let block = self.next_number();
         self.seat(block, bytes, false);
         block
     }

@@ -8,3 +8,5 @@ pub mod Purses
 pub mod Needs
 -- the slices of a purse without a block, and those with one
 pub mod Idle
+-- block numbers in ascending order
+pub mod Ascending

@@ -1,5 +1,5 @@
 //! What a seating tells.
-ghost use Rattle.std.specs.Prelude.{◌≡◌, ℕ, ◌↔◌, IfSome, ◌+◌, ◌≤◌, length, is_some, IsTrue, IsSome, None, false};
+ghost use Rattle.std.specs.Prelude.{◌≡◌, ℕ, ◌↔◌, IfSome, ◌+◌, ◌≤◌, ◌<◌, length, is_some, IsTrue, IsSome, None, false};
 ghost use Rattle.std.specs.Ordering.{nat_cmp};
 ghost use Rattle.std.specs.FinMap.{find};
 ghost use Rattle.std.specs.List.Sorted.{IsStrictlySortedBy};
@@ -7,7 +7,7 @@ ghost use Rattle.std.specs.Map.{keys_of};
 ghost use Rattle.std.specs.Option.{option_map, option_and_then};
 ghost use Rattle.block_seats.specs.Blocks.{block_at, stamp_of, was_put};
 ghost use Rattle.block_seats.specs.Purses.{place_of, block_in, first_block};
-ghost use Rattle.block_seats.specs.Seatings.{HasBlock, IsSeated, bytes_at, length_at, granted_of, used_of, open_of, spare_of, can_hold};
+ghost use Rattle.block_seats.specs.Seatings.{HasBlock, IsSeated, bytes_at, length_at, granted_of, used_of, open_of, spare_of, can_hold, IsNewNumber};
 
 use super::Seating;
 use crate::cell::{cell_length, cell_put, cell_stamp, is_there, slice_at, used_at};
@@ -131,6 +131,18 @@ impl Seating {
         ensures ordered { IsStrictlySortedBy nat_cmp (keys_of self.now.purse) }
     {
         self.open_seats.count()
+    }
+
+    /// The lowest number that names no block: the next block that is made gets it.
+    pub fn next_number(&self) -> u64
+        ensures number { IsNewNumber self.now result }
+        ensures nowhere { place_of self.now.purse result ≡ None }
+        ensures room { 1 ≤ spare_of self.now → result < self.now.numbers }
+    {
+        match self.vacant_cells.first() {
+            Some(number) => u64::from(number),
+            None => u64::from(self.vacant_cells.bound()),
+        }
     }
 
     /// For how many new blocks there are numbers.

@@ -5,11 +5,12 @@ use Rattle.block_seats.specs.Seatings.{SeatingView}
 use Rattle.block_home.specs.Homes.{HomeView}
 use Rattle.block_home.specs.Holding.{Holds}
 use Rattle.block_file.specs.Files.{file_in, FileView, HoldsBytes, IsSound, needed_last}
-use Rattle.block_file.specs.Growth.{ComeIn, Grows, IsGrown}
-use Rattle.block_file.proofs.Appending.{All-front}
-use Rattle.block_file.proofs.Ended.{undamaged_again}
-use Rattle.block_file.proofs.Going.{sound_kept}
-use Rattle.block_file.proofs.Growing.{come-append, adds-after}
+use Rattle.block_file.specs.Growth.{IsGrown}
+use Rattle.block_list.specs.Growth.{ComeIn, Grows}
+use Rattle.block_list.proofs.Listed.{All-front}
+use Rattle.block_list.proofs.Ended.{undamaged_again}
+use Rattle.block_file.proofs.Holding.{sound_kept}
+use Rattle.block_list.proofs.Growing.{come-append, adds-after}
 use Rattle.block_file.proofs.FileBody.append.Goals as goal
 
 pub extend_blocks-requires-clause-sound : goal.extend_blocks-requires-clause-sound

@@ -3,8 +3,8 @@ use Rattle.std.specs.Ordering.{nat_cmp}
 use Rattle.std.specs.FinMap.{find}
 use Rattle.block_home.specs.Holding.{Holds}
 use Rattle.block_file.specs.Files.{FileView}
-use Rattle.block_file.specs.Growth.{without_all}
-use Rattle.block_file.proofs.Going.{find-without_all}
+use Rattle.block_list.specs.Lists.{without_all}
+use Rattle.block_list.proofs.Going.{find-without_all}
 use Rattle.block_file.proofs.FileBody.cut_all.Goals as goal
 
 pub returns-clause-others : goal.returns-clause-others

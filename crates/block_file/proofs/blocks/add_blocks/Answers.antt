@@ -4,7 +4,7 @@ use Rattle.block_home.specs.Homes.{HomeView}
 use Rattle.block_file.specs.Files.{file_in, IsSound}
 use Rattle.block_file.specs.Growth.{IsGrown}
 use Rattle.block_file.proofs.Adding.{adding-more}
-use Rattle.block_file.proofs.Named.{carries_as}
+use Rattle.block_list.proofs.Named.{carries_as}
 use Rattle.block_file.proofs.blocks.add_blocks.Goals as goal
 
 pub loop-done-preserved : goal.loop-done-preserved

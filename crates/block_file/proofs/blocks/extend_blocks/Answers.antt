@@ -4,9 +4,10 @@ use Rattle.block_home.specs.Homes.{HomeView, room_of}
 use Rattle.block_home.specs.Holding.{Holds}
 use Rattle.block_file.specs.Files.{file_in, IsSound, HoldsBytes, new_blocks}
 use Rattle.block_file.specs.Growth.{IsGrown}
-use Rattle.block_file.proofs.Growing.{come-append, come-blocks, adds-after}
+use Rattle.block_list.proofs.Growing.{come-append, come-blocks, adds-after}
 use Rattle.block_file.proofs.Pieces.{ceil_above}
-use Rattle.block_file.proofs.Appending.{All-front, left_need, filled_full, joined, grown_then, rest_long}
+use Rattle.block_file.proofs.Appending.{left_need, filled_full, joined, grown_then, rest_long}
+use Rattle.block_list.proofs.Listed.{All-front}
 use Rattle.block_file.proofs.blocks.extend_blocks.Goals as goal
 
 -- the blocks are as many as their bytes take

@@ -4,7 +4,7 @@ use Rattle.std.specs.FinMap.{find}
 use Rattle.block_seats.specs.Blocks.{block_at, was_put}
 use Rattle.block_home.specs.Homes.{HomeView}
 use Rattle.block_home.proofs.Held.{put_other}
-use Rattle.block_file.proofs.Growing.{same_put}
+use Rattle.block_list.proofs.Growing.{same_put}
 use Rattle.block_file.specs.Files.{file_in, IsSound}
 use Rattle.block_file.specs.Growth.{IsGrown}
 use Rattle.block_file.proofs.Last.{inside, some_of}

@@ -1,6 +1,6 @@
 use Rattle.std.proofs.Common.{◌≢◌, ◌%◌, ◌<◌, ap, ◌∙◌, arith}
-use Rattle.block_file.proofs.Coming.{seated_or}
-use Rattle.block_file.proofs.Ended.{ok_map, err_map}
+use Rattle.block_list.proofs.Coming.{seated_or}
+use Rattle.block_list.proofs.Ended.{ok_map, err_map}
 use Rattle.block_file.proofs.Last.{room_last, last_came, last_left, last_others, needed_away, away_needed}
 use Rattle.block_file.proofs.blocks.load_last.Goals as goal
 

@@ -8,9 +8,9 @@ use Rattle.block_seats.specs.Purses.{place_of}
 use Rattle.block_seats.specs.Seatings.{SeatingView, HasBlock, length_at}
 use Rattle.block_home.specs.Homes.{HomeView}
 use Rattle.block_home.specs.Calls.{IsPart}
-use Rattle.block_file.specs.Ends.{NamesBlock}
-use Rattle.block_file.proofs.Ended.{names_one}
-use Rattle.block_file.proofs.Named.{holds_as, part_as}
+use Rattle.block_list.specs.Ends.{NamesBlock}
+use Rattle.block_list.proofs.Ended.{names_one}
+use Rattle.block_list.proofs.Named.{holds_as, part_as}
 use Rattle.block_file.proofs.Reading.{block_inside, block_there, part_within, read_more, place_between}
 use Rattle.block_file.proofs.blocks.read_blocks.Goals as goal
 

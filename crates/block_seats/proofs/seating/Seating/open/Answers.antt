@@ -6,7 +6,7 @@ use Rattle.id_set.specs.IdSet as set
 use Rattle.slice_seq.specs.Purses.{Purse}
 use Rattle.block_seats.specs.Seats.{held_in, is_open}
 use Rattle.block_seats.specs.Seatings.{SeatingView, open_of}
-use Rattle.block_seats.proofs.Tables.{entries_ascend}
+use Rattle.id_set.proofs.Tables.{entries_ascend}
 use Rattle.block_seats.proofs.Seats.{length-open_purse}
 use Rattle.block_seats.proofs.Views.{purse_in}
 use Rattle.block_seats.proofs.seating.Seating.open.Goals as goal

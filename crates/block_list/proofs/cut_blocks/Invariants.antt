@@ -3,8 +3,9 @@ use Rattle.far_io.specs.Faults.{Follows}
 use Rattle.shelf_link.specs.Blocks as map
 use Rattle.shelf_link.specs.Told.{IsSameKind}
 use Rattle.block_home.specs.Holding.{Holds}
-use Rattle.block_file.specs.Growth.{GoOut, without_all}
-use Rattle.block_file.proofs.blocks.cut_blocks.Given as goal
+use Rattle.block_list.specs.Growth.{GoOut}
+use Rattle.block_list.specs.Lists.{without_all}
+use Rattle.block_list.proofs.cut_blocks.Given as goal
 
 abbrev pub invariant-loop-block : goal.invariant-loop-block
 invariant-loop-block g l = record {

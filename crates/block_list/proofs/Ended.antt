@@ -1,4 +1,4 @@
--- Why a call on a file ends, from what a call on one of its blocks answers.
+-- Why a call on a list of blocks ends, from what a call on one of its blocks answers.
 use Rattle.std.proofs.Common.{◌≡◌, ℕ, ◌<◌, List, [], ◌∷◌, length, get_or, arith, Ok, Err, Some, None, Option, Result, refl, sym, ap, ◌∙◌, subst}
 use Rattle.std.specs.Prelude.{OnOk, OnErr}
 use Rattle.std.specs.Option.{option_and_then}
@@ -15,7 +15,7 @@ use Rattle.block_home.specs.Stored.{FaultRose, Causes}
 use Rattle.block_home.specs.Calls.{stamp_at, IsUndamaged, IsSound}
 use Rattle.block_home.specs.declared.end.HomeEnd.{HomeEnd}
 use Rattle.block_home.specs.declared.end.HomeEnd.TheVariants.{Exhausted, StoreFault, Damaged, NoMemory}
-use Rattle.block_file.specs.Ends.{NamesBlock}
+use Rattle.block_list.specs.Ends.{NamesBlock}
 
 -- an error is the same whatever is answered else
 pub undamaged_again : (T U : Type 0) (end : HomeEnd) → IsUndamaged {T = T} (Err end) → IsUndamaged {T = U} (Err end)
@@ -35,7 +35,7 @@ rose_later a b c (Err NoMemory) follows rose = tt
 pub causes_later : {T : Type 0} (a b c : Faults) (result : Result T HomeEnd) → Follows a b → Causes b c result → Causes a c result
 causes_later a b c result follows causes = record { follows = follows_on a b c follows causes.follows; rose = rose_later a b c result follows causes.rose }
 
--- a Damaged of a parked block of the file
+-- a Damaged of a parked block of the list
 pub names_one : (told : Told) (user : ℕ) (seats : SeatingView) (blocks : List ℕ) (index : ℕ) (result : Result (Unit {0}) HomeEnd) → index < length blocks → IsSound user (get_or blocks index 0) told seats.blocks result
     → OnErr result (place_of seats.purse (get_or blocks index 0) ≡ None) → NamesBlock seats blocks result
 names_one told user seats blocks index (Ok done) inside sound away = tt
@@ -52,7 +52,7 @@ names_one told user seats blocks index (Err (Damaged kept found)) inside sound a
           names.1,
         )
 
--- one of the file's blocks that is as it was at first
+-- one of the list's blocks that is as it was at first
 pub names_first : (old seats : SeatingView) (blocks : List ℕ) (index : ℕ) (result : Result (Unit {0}) HomeEnd) → index < length blocks → place_of seats.purse (get_or blocks index 0) ≡ place_of old.purse (get_or blocks index 0)
     → find nat_cmp (get_or blocks index 0) seats.blocks ≡ find nat_cmp (get_or blocks index 0) old.blocks → NamesBlock seats (get_or blocks index 0 ∷ []) result → NamesBlock old blocks result
 names_first old seats blocks index (Ok done) inside place_is find_is names = tt

@@ -1,15 +1,12 @@
--- Blocks of a file leave their slices, one after the other, for the store or for ever.
-use Rattle.std.proofs.Common.{◌≡◌, ◌≢◌, ℕ, suc, ◌+◌, ◌-◌, ◌*◌, ◌==◌, ◌||◌, min, ◌<◌, Bool, true, false, not, cond, is_some, List, [], ◌∷◌, ◌++◌, length, take, drop, get_or, Some, None, Option, refl, sym, ap, ◌∙◌, subst, inl, inr, arith, append-nil}
+-- Blocks leave their slices, one after the other, for the store or for ever.
+use Rattle.std.proofs.Common.{◌≡◌, ◌≢◌, ℕ, suc, ◌+◌, ◌==◌, ◌||◌, ◌<◌, Bool, true, false, not, cond, is_some, List, [], ◌∷◌, ◌++◌, length, take, drop, get_or, Some, None, Option, refl, sym, ap, ◌∙◌, subst, inl, inr, arith, append-nil}
 use Rattle.std.specs.Prelude.{All, AllPairs}
-use Rattle.std.specs.Int.{div_ceil}
 use Rattle.std.specs.List.{list_any, filter}
 use Rattle.std.specs.Ordering.{nat_cmp}
 use Rattle.std.specs.FinMap.{find}
 use Rattle.std.proofs.lemmas.Bool.{cases_eq}
-use Rattle.std.proofs.lemmas.Bool.Decides.{nat_tests}
-use Rattle.std.proofs.lemmas.List.{take_more, take-append-le, take-append-drop, take_all, get_or-take, get_or_default, length-take, length-append}
+use Rattle.std.proofs.lemmas.List.{take-append-drop, length-append}
 use Rattle.std.proofs.lemmas.List.Folds.{list_any-append}
-use Rattle.std.proofs.lemmas.List.Elements.{filter-append}
 use Rattle.slice_seq.specs.Purses.{Purse, has_block}
 use Rattle.shelf_link.specs.Told.{Told, IsSameKind}
 use Rattle.block_seats.specs.Blocks.{InStore}
@@ -20,32 +17,10 @@ use Rattle.block_seats.specs.Seatings.{SeatingView, IsAlike}
 use Rattle.block_seats.proofs.Purses.{has_block-place}
 use Rattle.block_home.specs.Calls.{KeepsLengths, IsParked, IsKept}
 use Rattle.block_home.proofs.Held.{put_other, without_other}
-use Rattle.block_file.specs.Files.{FileView, IsSound, seated_of, parked_of}
-use Rattle.block_file.specs.Growth.{without_blocks, noting_out, GoOut, KeepsOthers, without_all}
-use Rattle.block_file.proofs.Appending.{All-front}
-use Rattle.block_file.proofs.Growing.{alike_then, alike_same}
-
-pub eq_true : (a b : ℕ) → a ≡ b → (a == b) ≡ true
-eq_true a b e = grind (arith, nat_tests)
-
-pub eq_false : (a b : ℕ) → a ≢ b → (a == b) ≡ false
-eq_false a b e = grind (arith, nat_tests)
-
--- the first of a list that pass a test are those that pass it of the first
-pub filter-front : (p : ℕ → Bool) (i : ℕ) (xs : List ℕ) → take (length (filter p (take i xs))) (filter p xs) ≡ filter p (take i xs)
-filter-front p i xs =
-    ap (λ l. take (length (filter p (take i xs))) l) (ap (filter p) (sym (take-append-drop i xs)) ∙ filter-append p (take i xs) (drop i xs))
-    ∙ take-append-le (length (filter p (take i xs))) (filter p (take i xs)) (filter p (drop i xs)) (omega arith)
-    ∙ take_all (length (filter p (take i xs))) (filter p (take i xs)) (omega arith)
-
-pub filter-more : (p : ℕ → Bool) (i : ℕ) (xs : List ℕ) → i < length xs → filter p (take (i + 1) xs) ≡ filter p (take i xs) ++ cond (p (get_or xs i 0)) (get_or xs i 0 ∷ []) []
-filter-more p i xs inside = ap (filter p) (take_more xs i 0 inside) ∙ filter-append p (take i xs) (get_or xs i 0 ∷ [])
-
--- the next block isn't one of those before it
-pub next_apart : (blocks : List ℕ) (i : ℕ) → AllPairs ◌≢◌ blocks → i < length blocks → All (λ b. get_or blocks i 0 ≢ b) (take i blocks)
-next_apart blocks i distinct inside = λ k d early same.
-    let before : k < i = omega (arith, length-take i blocks) in
-    distinct k i d before inside (sym (get_or-take i blocks k d before) ∙ sym same ∙ get_or_default blocks i 0 d inside)
+use Rattle.block_list.specs.Lists.{seated_of, parked_of, KeepsOthers, without_all}
+use Rattle.block_list.specs.Growth.{without_blocks, noting_out, GoOut}
+use Rattle.block_list.proofs.Listed.{All-front, eq_true, eq_false, filter-front, filter-more, next_apart, All-take}
+use Rattle.block_list.proofs.Growing.{alike_then, alike_same}
 
 any-apart : (q : ℕ) (p : ℕ → Bool) (xs : List ℕ) → All (λ b. q ≢ b) xs → list_any (λ b. b == q) (filter p xs) ≡ false
 any-apart q p [] apart = refl
@@ -129,14 +104,6 @@ pub record Parking (old : SeatingView) (blocks : List ℕ) (seats : SeatingView)
 pub parking-none : (old : SeatingView) (blocks : List ℕ) → Parking old blocks old 0
 parking-none old blocks = record { goes = out-none old old refl; lengths = lengths_same old; others = λ q apart. refl }
 
-pub All-take : (q i : ℕ) (blocks : List ℕ) → i < length blocks → All (λ b. q ≢ b) (take (i + 1) blocks) → (q ≢ get_or blocks i 0) × All (λ b. q ≢ b) (take i blocks)
-All-take q i blocks inside apart = (
-  λ same. apart i 0 (omega (arith, length-take (i + 1) blocks)) (same ∙ sym (get_or-take (i + 1) blocks i 0 (omega arith))),
-  λ k d early same.
-      let before : k < i = omega (arith, length-take i blocks) in
-      apart k d (omega (arith, length-take i blocks, length-take (i + 1) blocks)) (same ∙ get_or-take i blocks k d before ∙ sym (get_or-take (i + 1) blocks k d (omega arith))),
-)
-
 module _ (user : ℕ) (old : SeatingView) (blocks : List ℕ) (distinct : AllPairs ◌≢◌ blocks) (seats : SeatingView) (i : ℕ) (p : Parking old blocks seats i) (inside : i < length blocks) (new : SeatingView) where
   abbrev block : ℕ
   block = get_or blocks i 0
@@ -188,14 +155,14 @@ find-without_all es (b ∷ blocks) q apart =
     find-without_all (without b es) blocks q (λ k d inside. apart (suc k) d (omega arith))
     ∙ without_other es b q (apart 0 0 (omega arith))
 
-pub without_all-push : {X : Type 0} (es : List (ℕ × X)) (blocks : List ℕ) (block : ℕ) → without_all es (blocks ++ block ∷ []) ≡ without block (without_all es blocks)
-without_all-push es [] block = refl
-without_all-push es (b ∷ blocks) block = without_all-push (without b es) blocks block
+pub without_all-push : {X : Type 0} (es : List (ℕ × X)) (blocks : List ℕ) (last : ℕ) → without_all es (blocks ++ last ∷ []) ≡ without last (without_all es blocks)
+without_all-push es [] last = refl
+without_all-push es (b ∷ blocks) last = without_all-push (without b es) blocks last
 
 pub kind_then : (a b c : Told) → IsSameKind a b → IsSameKind b c → IsSameKind a c
 kind_then a b c first second = record { tells = second.tells ∙ first.tells; void = second.void ∙ first.void }
 
--- the blocks that aren't the file's are as they were
+-- the blocks that aren't in the list are as they were
 pub others_of : {X : Type 0} (old new : List (ℕ × X)) (blocks : List ℕ) (i : ℕ) → ((q : ℕ) → All (λ b. q ≢ b) (take i blocks) → find nat_cmp q new ≡ find nat_cmp q old) → KeepsOthers old new blocks
 others_of old new blocks i others = record { others = λ q apart. others q (All-front q (take i blocks) (drop i blocks) blocks (sym (take-append-drop i blocks)) apart) }
 
@@ -205,19 +172,6 @@ stopped_others old blocks seats i p inside new kept = record {
       ap (λ (s : SeatingView). find nat_cmp q s.blocks) kept
       ∙ put_other seats.blocks (get_or blocks i 0) _ q (apart i 0 inside)
       ∙ (others_of old.blocks seats.blocks blocks i p.others).others q apart;
-}
-
--- and the file is as sound as it was
-pub sound_kept : (file : FileView) (old new : SeatingView) → new.size ≡ old.size → KeepsLengths old new → IsSound old file → IsSound new file
-sound_kept file old new size_is kept sound = record {
-  count = sound.count ∙ ap (div_ceil file.length) (sym size_is);
-  distinct = sound.distinct;
-  each = λ i inside.
-      let is = sound.each i inside in
-      record {
-        there = kept.there (get_or file.blocks i 0) ∙ is.there;
-        long = kept.lengths (get_or file.blocks i 0) ∙ is.long ∙ ap (λ s. min s (file.length - i * s)) (sym size_is);
-      };
 }
 
 -- one block more was looked at

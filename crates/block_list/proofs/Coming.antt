@@ -1,4 +1,4 @@
--- Parked blocks of a file come into slices, one after the other.
+-- Parked blocks come into slices, one after the other.
 use Rattle.std.proofs.Common.{◌≡◌, ◌≢◌, ℕ, suc, ◌+◌, ◌<◌, ◌≤◌, ◌⊎◌, Bool, true, false, not, cond, is_some, List, [], ◌∷◌, ◌++◌, length, take, drop, get_or, Some, None, Option, refl, sym, ap, ◌∙◌, subst, inl, inr, arith, append-nil}
 use Rattle.std.specs.Prelude.{All, AllPairs}
 use Rattle.std.specs.Ordering.{nat_cmp}
@@ -12,10 +12,11 @@ use Rattle.block_seats.proofs.Purses.{has_block-place}
 use Rattle.block_home.specs.Homes.{room_of}
 use Rattle.block_home.specs.Calls.{KeepsLengths, ComesIn, IsLoaded}
 use Rattle.block_home.proofs.Held.{put_other}
-use Rattle.block_file.specs.Files.{parked_of}
-use Rattle.block_file.specs.Growth.{ComeIn}
-use Rattle.block_file.proofs.Growing.{come-append, come-none}
-use Rattle.block_file.proofs.Going.{eq_false, filter-front, filter-more, next_apart, All-take, lengths_then, lengths_same}
+use Rattle.block_list.specs.Lists.{parked_of}
+use Rattle.block_list.specs.Growth.{ComeIn}
+use Rattle.block_list.proofs.Growing.{come-append, come-none}
+use Rattle.block_list.proofs.Listed.{eq_false, filter-front, filter-more, next_apart, All-take}
+use Rattle.block_list.proofs.Going.{lengths_then, lengths_same}
 
 -- one block came in
 pub come_one : (block : ℕ) (bytes : List ℕ) (old new : SeatingView) → ComesIn block bytes old new → ComeIn (block ∷ []) old new

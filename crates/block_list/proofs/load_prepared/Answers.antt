@@ -7,25 +7,24 @@ use Rattle.block_seats.specs.Seatings.{SeatingView}
 use Rattle.block_home.specs.Homes.{HomeView}
 use Rattle.block_home.specs.Holding.{Holds}
 use Rattle.std.proofs.lemmas.List.{take_all}
-use Rattle.block_file.specs.Files.{parked_of}
-use Rattle.block_file.specs.Growth.{ComeIn, KeepsOthers}
-use Rattle.block_file.proofs.Ended.{on_err, names_one, names_first, causes_later}
-use Rattle.block_file.proofs.Going.{lengths_then, others_of}
-use Rattle.block_file.proofs.Coming.{loading_place, loading_find, loading-more, loading-stopped, loading_room, seated_or, still_seated}
-use Rattle.block_file.proofs.blocks.load_blocks.Goals as goal
+use Rattle.block_list.specs.Lists.{parked_of, KeepsOthers}
+use Rattle.block_list.specs.Growth.{ComeIn}
+use Rattle.block_list.proofs.Ended.{on_err, names_one, names_first, causes_later}
+use Rattle.block_list.proofs.Going.{lengths_then, others_of}
+use Rattle.block_list.proofs.Coming.{loading_place, loading_find, loading-more, loading-stopped, loading_room, seated_or, still_seated}
+use Rattle.block_list.proofs.load_prepared.Goals as goal
 
 pub load-requires-clause-there : goal.load-requires-clause-there
 load-requires-clause-there g c =
     let blocks = c.args.blocks.now in
     let i = c.loop-block.block-index in
-    let there = c.requires.sound.each i c.loop-block-test.true in
-    c.loop-block.invariant.loading.lengths.there (get_or blocks i 0) ∙ there.there
+    c.loop-block.invariant.loading.lengths.there (get_or blocks i 0) ∙ c.requires.there.each i c.loop-block-test.true
 
 pub load-requires-clause-room : goal.load-requires-clause-room
 load-requires-clause-room g c =
     let l = c.loop-block in
     seated_or l.home.seats (get_or c.args.blocks.now l.block-index 0)
-    (loading_room c.args.home.now.seats c.args.blocks.now c.requires.sound.distinct l.home.seats l.block-index l.invariant.loading c.loop-block-test.true)
+    (loading_room c.args.home.now.seats c.args.blocks.now c.requires.there.distinct l.home.seats l.block-index l.invariant.loading c.loop-block-test.true)
 
 pub loop-block-preserved : goal.loop-block-preserved
 loop-block-preserved g c =
@@ -40,11 +39,11 @@ loop-block-preserved g c =
     let user_is : l.home.user ≡ start.user = ap (λ (h : HomeView g.row.K.Denot). h.user) l.invariant.rest in
     record {
       rest = load.rest ∙ (λ j. record (l.invariant.rest j) { seats = now.seats; shelf = now.shelf });
-      loading = loading-more start.seats blocks c.requires.sound.distinct l.home.seats i l.invariant.loading c.loop-block-test.true now.seats load.placed load.lengths;
+      loading = loading-more start.seats blocks c.requires.there.distinct l.home.seats i l.invariant.loading c.loop-block-test.true now.seats load.placed load.lengths;
       told = load.told ∙ l.invariant.told;
       follows = follows_on (faults start.shelf) (faults l.home.shelf) (faults now.shelf) l.invariant.follows load.cause.follows;
       holds = λ m holds. subst (λ u. Holds m (told now.shelf) u now.seats.blocks) user_is (load.holds m (subst (λ u. Holds m (told l.home.shelf) u l.home.seats.blocks) (sym user_is) (l.invariant.holds m holds)));
-      seated = λ v. still_seated start.seats blocks c.requires.sound.distinct l.home.seats i l.invariant.loading c.loop-block-test.true
+      seated = λ v. still_seated start.seats blocks c.requires.there.distinct l.home.seats i l.invariant.loading c.loop-block-test.true
           (λ none. let clash = load.void (subst (λ (t : Told). IsTrue t.void) (sym l.invariant.told) v) none in cc) (l.invariant.seated v);
     }
 
@@ -53,7 +52,7 @@ returns-in_err-load-clause-err g c =
     let l = c.loop-block in
     let e = err_from_is_err_and c.from_residual.result c.from_residual.ensures.1 in
     on_err c.from_residual.result e.0 e.1
-    (loading-stopped c.args.home.now.seats c.args.blocks.now c.requires.sound.distinct l.home.seats l.block-index l.invariant.loading c.loop-block-test.true c.load.new.self.seats c.in_err-load.ensures.same)
+    (loading-stopped c.args.home.now.seats c.args.blocks.now c.requires.there.distinct l.home.seats l.block-index l.invariant.loading c.loop-block-test.true c.load.new.self.seats c.in_err-load.ensures.same)
 
 pub returns-in_err-load-clause-lengths : goal.returns-in_err-load-clause-lengths
 returns-in_err-load-clause-lengths g c = lengths_then c.args.home.now.seats c.loop-block.home.seats c.load.new.self.seats c.loop-block.invariant.loading.lengths c.in_err-load.ensures.lengths
@@ -89,7 +88,7 @@ returns-in_err-load-clause-names g c =
     let e = err_from_is_err_and c.from_residual.result c.from_residual.ensures.1 in
     rw (e.1, e.2)
     (names_first start l.home.seats blocks l.block-index (Err c.in_err-load.field-0.0) c.loop-block-test.true
-    (loading_place start blocks c.requires.sound.distinct l.home.seats l.block-index p c.loop-block-test.true) (loading_find start blocks c.requires.sound.distinct l.home.seats l.block-index p c.loop-block-test.true)
+    (loading_place start blocks c.requires.there.distinct l.home.seats l.block-index p c.loop-block-test.true) (loading_find start blocks c.requires.there.distinct l.home.seats l.block-index p c.loop-block-test.true)
     (names_one (g.K.Shelf.told l.home.shelf) l.home.user l.home.seats (get_or blocks l.block-index 0 ∷ []) 0 (Err c.in_err-load.field-0.0) (lit< tt) c.in_err-load.ensures.sound c.in_err-load.ensures.away))
 
 pub returns-in_err-load-clause-telling : goal.returns-in_err-load-clause-telling

@@ -2,8 +2,8 @@ use Rattle.std.proofs.Common.{◌≡◌}
 use Rattle.far_io.specs.Faults.{Follows}
 use Rattle.shelf_link.specs.Told.{IsSameKind}
 use Rattle.block_home.specs.Calls.{Carries}
-use Rattle.block_file.proofs.Going.{Parking}
-use Rattle.block_file.proofs.blocks.park_blocks.Given as goal
+use Rattle.block_list.proofs.Going.{Parking}
+use Rattle.block_list.proofs.park_blocks.Given as goal
 
 abbrev pub invariant-loop-block : goal.invariant-loop-block
 invariant-loop-block g l = record {

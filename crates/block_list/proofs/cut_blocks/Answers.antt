@@ -6,20 +6,21 @@ use Rattle.far_io.proofs.Faults.{follows_on}
 use Rattle.block_seats.specs.Tables.{without}
 use Rattle.block_home.specs.Homes.{HomeView}
 use Rattle.block_home.specs.Holding.{Holds}
-use Rattle.block_file.specs.Growth.{GoOut, without_all}
-use Rattle.block_file.proofs.Going.{next_apart, out-push, find-without_all, without_all-push, kind_then}
-use Rattle.block_file.proofs.blocks.cut_blocks.Goals as goal
+use Rattle.block_list.specs.Growth.{GoOut}
+use Rattle.block_list.specs.Lists.{without_all}
+use Rattle.block_list.proofs.Listed.{next_apart}
+use Rattle.block_list.proofs.Going.{out-push, find-without_all, without_all-push, kind_then}
+use Rattle.block_list.proofs.cut_blocks.Goals as goal
 
 pub cut-requires : goal.cut-requires
 cut-requires g c =
     let blocks = c.args.blocks.now in
     let i = c.loop-block.block-index in
     let inside = c.loop-block-test.true in
-    let there = c.requires.each i inside in
     ap is_some
     (ap (find nat_cmp (get_or blocks i 0)) c.loop-block.invariant.blocks_are
     ∙ find-without_all c.args.home.now.seats.blocks (take i blocks) (get_or blocks i 0) (next_apart blocks i c.requires.distinct inside))
-    ∙ there.there
+    ∙ c.requires.each i inside
 
 pub loop-block-preserved : goal.loop-block-preserved
 loop-block-preserved g c =
@@ -49,3 +50,12 @@ loop-block-preserved g c =
 pub returns-clause-holds : goal.returns-clause-holds
 returns-clause-holds g c = λ m holds.
     subst (λ bs. Holds (without_all m bs) (g.K.Shelf.told c.loop-block.home.shelf) c.args.home.now.user c.loop-block.home.seats.blocks) (take_all c.loop-block.block-index c.args.blocks.now c.loop-block-test.false) (c.loop-block.invariant.holds m holds)
+
+pub returns-clause-others : goal.returns-clause-others
+returns-clause-others g c =
+    let start = c.args.home.now.seats.blocks in
+    record {
+      others = λ q apart.
+          ap (find nat_cmp q) (c.loop-block.invariant.blocks_are ∙ ap (without_all start) (take_all c.loop-block.block-index c.args.blocks.now c.loop-block-test.false))
+          ∙ find-without_all start c.args.blocks.now q apart;
+    }

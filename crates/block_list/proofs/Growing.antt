@@ -9,7 +9,7 @@ use Rattle.block_seats.specs.Noted.{NotedView, noting_placed}
 use Rattle.block_seats.specs.Purses.{with_block, next_place}
 use Rattle.block_seats.specs.Seatings.{SeatingView, IsAlike, IsNewNumber}
 use Rattle.block_home.proofs.Held.{put_here, put_other}
-use Rattle.block_file.specs.Growth.{with_blocks, noting_in, ComeIn, AddsBlocks}
+use Rattle.block_list.specs.Growth.{with_blocks, noting_in, ComeIn, AddsBlocks}
 
 -- some blocks, and then others
 pub with_blocks-append : (purse : Purse) (xs ys : List ℕ) → with_blocks purse (xs ++ ys) ≡ with_blocks (with_blocks purse xs) ys

@@ -4,19 +4,18 @@ use Rattle.std.proofs.lemmas.Result.{err_from_is_err_and}
 use Rattle.far_io.proofs.Faults.{follows_on, rose_before}
 use Rattle.block_home.specs.Homes.{HomeView}
 use Rattle.block_home.specs.Holding.{Holds}
-use Rattle.block_file.specs.Files.{seated_of}
-use Rattle.block_file.specs.Growth.{GoOut}
-use Rattle.block_file.proofs.Ended.{on_err}
-use Rattle.block_file.proofs.Going.{parking-more, parking-stopped, lengths_then, kind_then, others_of, stopped_others}
-use Rattle.block_file.proofs.blocks.park_blocks.Goals as goal
+use Rattle.block_list.specs.Lists.{seated_of}
+use Rattle.block_list.specs.Growth.{GoOut}
+use Rattle.block_list.proofs.Ended.{on_err}
+use Rattle.block_list.proofs.Going.{parking-more, parking-stopped, lengths_then, kind_then, others_of, stopped_others}
+use Rattle.block_list.proofs.park_blocks.Goals as goal
 
 pub park-requires : goal.park-requires
 park-requires g c =
     let blocks = c.args.blocks.now in
     let i = c.loop-block.block-index in
     let inside = c.loop-block-test.true in
-    let there = c.requires.sound.each i inside in
-    c.loop-block.invariant.parking.lengths.there (get_or blocks i 0) ∙ there.there
+    c.loop-block.invariant.parking.lengths.there (get_or blocks i 0) ∙ c.requires.each i inside
 
 pub loop-block-preserved : goal.loop-block-preserved
 loop-block-preserved g c =
@@ -31,7 +30,7 @@ loop-block-preserved g c =
     let user_is : l.home.user ≡ start.user = ap (λ (h : HomeView g.row.K.Denot). h.user) l.invariant.rest in
     record {
       rest = park.rest ∙ (λ j. record (l.invariant.rest j) { seats = now.seats; shelf = now.shelf });
-      parking = parking-more l.home.user start.seats blocks c.requires.sound.distinct l.home.seats i l.invariant.parking c.loop-block-test.true now.seats park.parked park.lengths;
+      parking = parking-more l.home.user start.seats blocks c.requires.distinct l.home.seats i l.invariant.parking c.loop-block-test.true now.seats park.parked park.lengths;
       kind = kind_then (told start.shelf) (told l.home.shelf) (told now.shelf) l.invariant.kind park.kind;
       follows = follows_on (faults start.shelf) (faults l.home.shelf) (faults now.shelf) l.invariant.follows park.cause.follows;
       holds = λ m holds. subst (λ u. Holds m (told now.shelf) u now.seats.blocks) user_is (park.holds m (subst (λ u. Holds m (told l.home.shelf) u l.home.seats.blocks) (sym user_is) (l.invariant.holds m holds)));
@@ -42,7 +41,7 @@ returns-in_err-park-clause-err g c =
     let l = c.loop-block in
     let e = err_from_is_err_and c.from_residual.result c.from_residual.ensures.1 in
     on_err c.from_residual.result e.0 e.1
-    (parking-stopped l.home.user c.args.home.now.seats c.args.blocks.now c.requires.sound.distinct l.home.seats l.block-index l.invariant.parking c.loop-block-test.true c.park.new.self.seats c.in_err-park.ensures.stays)
+    (parking-stopped l.home.user c.args.home.now.seats c.args.blocks.now c.requires.distinct l.home.seats l.block-index l.invariant.parking c.loop-block-test.true c.park.new.self.seats c.in_err-park.ensures.stays)
 
 pub returns-in_err-park-clause-lengths : goal.returns-in_err-park-clause-lengths
 returns-in_err-park-clause-lengths g c = lengths_then c.args.home.now.seats c.loop-block.home.seats c.park.new.self.seats c.loop-block.invariant.parking.lengths c.in_err-park.ensures.lengths

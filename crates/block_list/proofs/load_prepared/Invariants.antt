@@ -2,9 +2,9 @@ use Rattle.std.proofs.Common.{◌≡◌, length, take}
 use Rattle.std.specs.Prelude.{IsTrue}
 use Rattle.far_io.specs.Faults.{Follows}
 use Rattle.block_home.specs.Calls.{Carries}
-use Rattle.block_file.specs.Files.{parked_of}
-use Rattle.block_file.proofs.Coming.{Loading}
-use Rattle.block_file.proofs.blocks.load_blocks.Given as goal
+use Rattle.block_list.specs.Lists.{parked_of}
+use Rattle.block_list.proofs.Coming.{Loading}
+use Rattle.block_list.proofs.load_prepared.Given as goal
 
 abbrev pub invariant-loop-block : goal.invariant-loop-block
 invariant-loop-block g l = record {

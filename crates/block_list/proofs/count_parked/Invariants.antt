@@ -1,6 +1,6 @@
 use Rattle.std.proofs.Common.{◌≡◌, ◌≤◌, length, take}
-use Rattle.block_file.specs.Files.{parked_of}
-use Rattle.block_file.proofs.blocks.count_parked.Given as goal
+use Rattle.block_list.specs.Lists.{parked_of}
+use Rattle.block_list.proofs.count_parked.Given as goal
 
 abbrev pub invariant-loop-block : goal.invariant-loop-block
 invariant-loop-block g l = record {

@@ -1,8 +1,8 @@
 use Rattle.std.proofs.Common.{◌≡◌, ◌+◌, true, false, not, is_some, length, take, add-zero, sym, ap, ◌∙◌, arith}
-use Rattle.block_file.specs.Files.{parked_of}
-use Rattle.block_file.proofs.Going.{counted_more}
-use Rattle.block_file.proofs.blocks.count_parked.Goals as goal
-use Rattle.block_file.proofs.blocks.count_parked.Goals.{then-is_none, else-is_none}
+use Rattle.block_list.specs.Lists.{parked_of}
+use Rattle.block_list.proofs.Going.{counted_more}
+use Rattle.block_list.proofs.count_parked.Goals as goal
+use Rattle.block_list.proofs.count_parked.Goals.{then-is_none, else-is_none}
 
 pub loop-block-preserved : goal.loop-block-preserved
 loop-block-preserved g c =
