@@ -6,3 +6,5 @@ mod FilledLemmas
 mod GrowLemmas
 -- a level over the level below it
 mod LevelLemmas
+-- tables, seen as finite maps
+pub mod Tables
