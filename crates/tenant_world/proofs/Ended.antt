@@ -9,8 +9,8 @@ use Rattle.block_home.specs.declared.end.HomeEnd.TheVariants.{Exhausted as Lacki
 use Rattle.block_home.specs.Homes.{HomeView}
 use Rattle.block_home.specs.Stored.{IsStoreEnd, FaultRose}
 use Rattle.block_file.specs.Files.{FileView}
-use Rattle.block_file.specs.Ends.{IsFileEnd, NamesBlock, IsNeverDamaged}
-use Rattle.tenant_world.specs.Contents.{file_of}
+use Rattle.block_list.specs.Ends.{IsPreparedEnd, NamesBlock, IsNeverDamaged}
+use Rattle.tenant_world.specs.Contents.{blocks_of, file_of}
 use Rattle.tenant_world.specs.Keeping.{Keeping, IsKept, readied, end_reply}
 use Rattle.tenant_world.specs.Appending.{IsAppended, HasRoomFor}
 use Rattle.tenant_world.specs.Reading.{IsReadOf}
@@ -36,21 +36,21 @@ module _ {K : Type 0} (told : K → Told) (faults : K → Faults) where
     pub names : NamesBlock {T = T} old.seats blocks (Err end)
     pub never : IsNeverDamaged {T = T} (told old.shelf) old.user old.seats (Err end)
 
-  pub appended_end : (T : Type 0) (old new : Keeping K) (path more : List ℕ) (end : HomeEnd) → IsFileEnd end → Ends T old.home new.home.shelf (file_of old.content).blocks end → HasRoomFor old more → IsKept told old new
+  pub appended_end : (T : Type 0) (old new : Keeping K) (path more : List ℕ) (end : HomeEnd) → IsPreparedEnd end → Ends T old.home new.home.shelf (file_of old.content).blocks end → HasRoomFor old more → IsKept told old new
       → IsAppended told faults old path more (end_reply end) new
   appended_end T old new path more (Lacking asked used granted) file ends fits kept = absurd file
   appended_end T old new path more Failing file ends fits kept = (fits, ends.rose, kept)
   appended_end T old new path more (Damaging stamp found) file ends fits kept = (fits, record { parked = ends.names.0; instead = ends.names.1; untold = ends.never }, kept)
   appended_end T old new path more Starving file ends fits kept = (fits, kept)
 
-  pub loaded_end : (T : Type 0) (old new : Keeping K) (path : List ℕ) (end : HomeEnd) → IsStoreEnd end → Ends T old.home new.home.shelf (file_of old.content).blocks end → ((n : ℕ) × Returns told old path n new)
+  pub loaded_end : (T : Type 0) (old new : Keeping K) (path : List ℕ) (end : HomeEnd) → IsStoreEnd end → Ends T old.home new.home.shelf (blocks_of old.content) end → ((n : ℕ) × Returns told old path n new)
       → IsLoadedContent told faults old path (end_reply end) new
   loaded_end T old new path (Lacking asked used granted) store ends back = absurd store
   loaded_end T old new path Failing store ends back = (ends.rose, back)
   loaded_end T old new path (Damaging stamp found) store ends back = (record { parked = ends.names.0; instead = ends.names.1; untold = ends.never }, back)
   loaded_end T old new path Starving store ends back = absurd store
 
-  pub read_end : (T : Type 0) (old new : HomeView K) (file : FileView) (from len : ℕ) (end : HomeEnd) → IsFileEnd end → Ends T old new.shelf file.blocks end → IsReadOf told faults old file from len (end_reply end) new
+  pub read_end : (T : Type 0) (old new : HomeView K) (file : FileView) (from len : ℕ) (end : HomeEnd) → IsPreparedEnd end → Ends T old new.shelf file.blocks end → IsReadOf told faults old file from len (end_reply end) new
   read_end T old new file from len (Lacking asked used granted) store ends = absurd store
   read_end T old new file from len Failing store ends = ends.rose
   read_end T old new file from len (Damaging stamp found) store ends = record { parked = ends.names.0; instead = ends.names.1; untold = ends.never }

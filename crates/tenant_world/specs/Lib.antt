@@ -14,10 +14,16 @@ pub mod Serves
 pub mod Contents
 -- a content with its home and the moves that are noted
 pub mod Keeping
+-- what a request does to one content: its blocks, their slices, and the moves
+pub mod Moving
 -- what an append does to a content, its home and the moves
 pub mod Appending
 -- what a read gives of a content
 pub mod Reading
+-- what a push does to a content, its home and the moves
+pub mod Pushing
+-- what a pop does to a content, and what a look at its first item gives
+pub mod Popping
 -- what a park and a load do to a content, its home and the moves
 pub mod Parking
 -- what holds of a tenant's fields

@@ -1,10 +1,10 @@
 -- What shows of a name without the content of its blocks: its lease, its kind, and how much it has.
-use Rattle.std.specs.Prelude.{ℕ, List, length}
+use Rattle.std.specs.Prelude.{ℕ, length}
 use Rattle.far_history.specs.Worlds.{Body, DirBody, FileBody, QueueBody, TableBody, Node}
-use Rattle.far_history.specs.Layouts.{KeptAs, KeptFile}
+use Rattle.block_queue.specs.Queues.{count_of}
 use Rattle.tenant_world.specs.declared.names.Named.{Named}
 use Rattle.tenant_world.specs.declared.names.Content.{Content}
-use Rattle.tenant_world.specs.declared.names.Content.TheVariants.{File}
+use Rattle.tenant_world.specs.declared.names.Content.TheVariants.{File, Queue}
 
 -- a directory, or so many bytes, items or keys
 pub data Extent : Type 0 where
@@ -29,9 +29,7 @@ outline_of node = record { lease = node.lease; extent = extent_of node.body }
 -- what a tenant's fields show, without its store
 abbrev pub content_extent : Content → Extent
 content_extent (File file) = FileExtent file.length
+content_extent (Queue queue) = QueueExtent (count_of queue)
 
 abbrev pub named_outline : Named → Outline
 named_outline named = record { lease = named.lease; extent = content_extent named.content }
-
-abbrev pub kept_of : Content → KeptAs
-kept_of (File file) = KeptFile file.blocks

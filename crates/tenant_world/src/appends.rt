@@ -67,7 +67,7 @@ fn append_file<K: Shelf>(
     }
 }
 
-/// Puts bytes at the end of a content that is a file.
+/// Puts bytes at the end of a content that is a file. A queue is no file.
 pub fn append_content<K: Shelf>(
     alloc: Global,
     content: &mut Content,
@@ -86,5 +86,9 @@ pub fn append_content<K: Shelf>(
 {
     match content {
         Content::File(file) => append_file(alloc, file, home, moves, path, bytes),
+        Content::Queue(_) => {
+            home.clear_moves();
+            Reply::WrongKind
+        }
     }
 }

@@ -1,14 +1,21 @@
 //! What a name stands for.
-ghost use Rattle.std.specs.Prelude.{◌≡◌};
+ghost use Rattle.std.specs.Prelude.{◌≡◌, ℕ, []};
+ghost use Rattle.shelf_link.specs.Blocks as map;
+ghost use Rattle.far_history.specs.Answers.{empty_body};
+ghost use Rattle.far_history.specs.Layouts.{kept_empty};
+ghost use Rattle.block_seats.specs.Seatings.{SeatingView};
 ghost use Rattle.block_file.specs.Files.{IsSound};
-ghost use Rattle.tenant_world.specs.Contents.{IsSoundContent, file_of};
+ghost use Rattle.tenant_world.specs.Contents.{IsSoundContent, blocks_of};
+ghost use Rattle.tenant_world.specs.Outlines.{extent_of, content_extent};
+ghost use Rattle.tenant_world.specs.Standing.{IsKeptAs};
 ghost use Rattle.tenant_world.specs.Keeping.{KeepsStore};
-ghost use Rattle.tenant_world.specs.Reading.{IsReadOf};
+ghost use Rattle.tenant_world.specs.Reading.{IsReadOf, IsReadIn, length_reply};
 
 use crate::rows::reply_of;
 use block_file::FileBody;
 use block_home::Home;
-use far_words::{Blob, Reply};
+use block_queue::QueueBody;
+use far_words::{Blob, Kind, Reply};
 use shelf_link::Shelf;
 use std::alloc::Global;
 
@@ -16,6 +23,7 @@ use std::alloc::Global;
 #[derive(Drop)]
 pub enum Content {
     File(FileBody),
+    Queue(QueueBody),
 }
 
 /// A name's lease and content.
@@ -25,12 +33,26 @@ pub struct Named {
     pub content: Content,
 }
 
-/// How many bytes a file has.
-pub fn length_in(content: &Content) -> u64
-    ensures { result ≡ (file_of content.now).length }
+/// A content of a kind, without bytes or items, which needs no block.
+pub fn empty_content(alloc: Global, kind: Kind) -> Content
+    ensures shows { content_extent result ≡ extent_of (empty_body kind) }
+    ensures blocks { blocks_of result ≡ [] }
+    ensures sound { (seats : SeatingView) → IsSoundContent seats result }
+    ensures kept { (size : ℕ) (m : map.Blocks) → IsKeptAs size m result (kept_empty kind) (empty_body kind) }
+{
+    match kind {
+        Kind::File => Content::File(FileBody::new(alloc)),
+        Kind::Queue => Content::Queue(QueueBody::new(alloc)),
+    }
+}
+
+/// How many bytes a file has. A queue is no file.
+pub fn length_in(content: &Content) -> Reply
+    ensures { result ≡ length_reply content.now }
 {
     match content {
-        Content::File(file) => file.length(),
+        Content::File(file) => Reply::Number(file.length()),
+        Content::Queue(_) => Reply::WrongKind,
     }
 }
 
@@ -56,7 +78,8 @@ fn read_file<K: Shelf>(
     }
 }
 
-/// The bytes of a content that is a file, from `from` on, at most `len` of them, or why there are none. No block moves.
+/// The bytes of a content that is a file, from `from` on, at most `len` of them, or why there are none. A queue is no file.
+/// No block moves.
 pub fn read_content<K: Shelf>(
     alloc: Global,
     content: &mut Content,
@@ -65,7 +88,7 @@ pub fn read_content<K: Shelf>(
     len: u32,
 ) -> Reply
     requires { IsSoundContent home.old.seats content.old }
-    ensures read { IsReadOf K.told K.faults home.old (file_of content.old) from len result home.new }
+    ensures read { IsReadIn K.told K.faults home.old content.old from len result home.new }
     ensures store { KeepsStore K.told K.faults home.old home.new }
     ensures told { K.told home.new.shelf ≡ K.told home.old.shelf }
     ensures home { home.new ≡ record home.old { shelf = home.new.shelf } }
@@ -73,5 +96,6 @@ pub fn read_content<K: Shelf>(
 {
     match content {
         Content::File(file) => read_file(alloc, file, home, from, len),
+        Content::Queue(_) => Reply::WrongKind,
     }
 }

@@ -13,9 +13,8 @@ ghost use Rattle.far_history.specs.Entries.{Entry, Ask};
 ghost use Rattle.far_history.specs.Histories.{State, fits};
 
 use crate::appends::append_content;
-use crate::names::{Content, Named, length_in, read_content};
+use crate::names::{Named, empty_content, length_in, read_content};
 use crate::parks::{load_content, park_content};
-use block_file::FileBody;
 use block_home::Home;
 use far_words::{Kind, MOST_IN_REQUEST, Moves, Outcome, Path, Reply, Request};
 use karma_rule::Shape;
@@ -24,6 +23,8 @@ use slice_seq::Slice;
 use std::alloc::{AllocError, Global};
 use std::collections::BTreeMap;
 use std::marker::Model;
+
+mod queues;
 
 /// What comes to a tenant.
 pub enum TenantAsk {
@@ -233,6 +234,10 @@ impl<K: Shelf> Tenant<K> {
             Request::Append { path, bytes } => self.append(&path, bytes.items()),
             Request::Read { path, from, len } => self.read(&path, from, len),
             Request::Length { path } => self.length(&path),
+            Request::Push { path, item } => self.push(&path, item.items()),
+            Request::Pop { path } => self.pop(&path),
+            Request::Front { path } => self.front(&path),
+            Request::Count { path } => self.count(&path),
             Request::Park { path } => self.park(&path),
             Request::Load { path } => self.load(&path),
         }
@@ -261,7 +266,7 @@ impl<K: Shelf> Tenant<K> {
         }
     }
 
-    /// A name at the top is made, without bytes. After NoMemory nothing has changed.
+    /// A name at the top is made, with an empty content. After NoMemory nothing has changed.
     fn make_top(&mut self, path: Path, kind: Kind, span: u64) -> Reply
         requires still { IsStill self.old.moves }
         requires top { parent_of path ≡ None }
@@ -271,9 +276,7 @@ impl<K: Shelf> Tenant<K> {
             return Reply::Exists;
         }
         let lease = self.moment.saturating_add(span);
-        let content = match kind {
-            Kind::File => Content::File(FileBody::new(self.alloc)),
-        };
+        let content = empty_content(self.alloc, kind);
         match self.names.insert(path, Named { lease, content }) {
             Ok(_) => Reply::Done,
             Err(_) => Reply::NoMemory,
@@ -327,7 +330,7 @@ impl<K: Shelf> Tenant<K> {
         let Some(named) = self.names.get(path) else {
             return Reply::Absent;
         };
-        Reply::Number(length_in(&named.content))
+        length_in(&named.content)
     }
 
     /// The blocks of a name go into the store, in the order of their indexes.
@@ -335,10 +338,10 @@ impl<K: Shelf> Tenant<K> {
         requires { IsStill self.old.moves }
         ensures { Serves K.told K.faults self.old (Park path.now) result self.new }
     {
-        let Some(named) = self.names.get(path) else {
+        let Some(named) = self.names.get_mut(path) else {
             return Reply::Absent;
         };
-        park_content(&named.content, &mut self.home, &mut self.moves)
+        park_content(&mut named.content, &mut self.home, &mut self.moves)
     }
 
     /// The blocks of a name that are in the store come back into slices, in the order of their indexes.
@@ -346,12 +349,12 @@ impl<K: Shelf> Tenant<K> {
         requires { IsStill self.old.moves }
         ensures { Serves K.told K.faults self.old (Load path.now) result self.new }
     {
-        let Some(named) = self.names.get(path) else {
+        let Some(named) = self.names.get_mut(path) else {
             return Reply::Absent;
         };
         load_content(
             self.alloc,
-            &named.content,
+            &mut named.content,
             &mut self.home,
             &mut self.moves,
             path,

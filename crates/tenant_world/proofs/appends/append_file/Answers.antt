@@ -1,7 +1,7 @@
-use Rattle.std.proofs.Common.{◌≡◌, ◌/◌, ◌≤◌, ◌++◌, ℕ, List, length, drop, refl, sym, ap, subst, ◌∙◌, arith, Err}
-use Rattle.far_words.specs.declared.moves.PlacedRow.{PlacedRow}
+use Rattle.std.proofs.Common.{◌≡◌, ◌/◌, ◌≤◌, ◌++◌, ℕ, List, [], length, drop, refl, sym, ap, subst, ◌∙◌, arith, Err}
 use Rattle.far_words.specs.declared.request.Reply.{Reply}
 use Rattle.slice_seq.specs.Purses.{open_slices}
+use Rattle.far_history.specs.Legal.{slices_of}
 use Rattle.shelf_link.specs.Blocks as map
 use Rattle.block_seats.specs.Noted.{NotedView}
 use Rattle.block_seats.specs.Seatings.{SeatingView}
@@ -9,13 +9,16 @@ use Rattle.block_home.specs.Homes.{HomeView, room_of}
 use Rattle.block_home.specs.Holding.{Holds}
 use Rattle.block_home.specs.Stored.{FaultRose}
 use Rattle.block_file.specs.Files.{FileView, IsFile, need_of, needed_last}
-use Rattle.block_file.specs.Growth.{Grows, KeepsOthers, IsGrown}
-use Rattle.block_file.specs.Ends.{NamesBlock, IsNeverDamaged}
+use Rattle.block_file.specs.Growth.{IsGrown}
+use Rattle.block_list.specs.Growth.{Grows}
+use Rattle.block_list.specs.Lists.{KeepsOthers}
+use Rattle.block_list.specs.Ends.{NamesBlock, IsNeverDamaged}
 use Rattle.tenant_world.specs.Rows.{rows_of}
 use Rattle.tenant_world.specs.Keeping.{Keeping, IsKept, readied}
 use Rattle.tenant_world.specs.Appending.{HasRoomFor, IsAppended}
 use Rattle.tenant_world.specs.declared.names.Content.TheVariants.{File}
-use Rattle.tenant_world.proofs.Grew.{GrewIn, placed_count, grown_rows, numbers_after}
+use Rattle.tenant_world.proofs.Grew.{GrewIn, placed_count, grown_rows, numbers_after, blocks_after, grown_moves, grown_many, grown_own, grown_bytes}
+use Rattle.tenant_world.proofs.Served.{slices_none}
 use Rattle.tenant_world.proofs.Ended.{prepared, names_before, appended_end}
 use Rattle.tenant_world.proofs.appends.append_file.Goals as goal
 
@@ -78,22 +81,33 @@ returns-in-Ok-append-clause-appended g c =
       grows = grows;
       room = room;
     } in
+    let mine : GrewIn old new.numbers file file' more new = subst (λ (n : ℕ). GrewIn old n file file' more new) (sym (numbers_after old numbers file file' more new grew)) grew in
+    let others = subst (λ (h : HomeView g.row.K.Denot). KeepsOthers h.seats.blocks new.blocks file'.blocks) is ens.others in
+    let grown = subst (λ (h : HomeView g.row.K.Denot). (m : map.Blocks) (b : List ℕ) → Holds m (told h.shelf) h.user h.seats.blocks → IsFile h.seats.size m file b
+    → IsGrown m (told c.append.new.home.shelf) h.user new file' (b ++ bytes)) is ens.bytes in
     let size : c.from-size.result ≡ old.size = c.from-size.ensures ∙ c.size.ensures.value ∙ ap (λ (h : HomeView g.row.K.Denot). h.seats.size) is in
     let first : c.length-old.result / c.from-size.result ≡ file.length / old.size = λ i. c.length-old.ensures i / size i in
     let rows : c.push_rows.new.rows.items ≡ rows_of path (file.length / old.size) (drop (file.length / old.size) file'.blocks) new.moves.placed =
-    c.push_rows.ensures ∙ (λ i. c.in-Ok.ensures.items i ++ rows_of path (first i) (drop (first i) file'.blocks) ((c.placed.ensures ∙ ap (λ (m : NotedView). m.placed) c.moves.ensures) i)) in (
-      omega (arith, c.saturating_add.ensures, c.length-old.ensures),
+    c.push_rows.ensures ∙ (λ i. c.in-Ok.ensures.items i ++ rows_of path (first i) (drop (first i) file'.blocks) ((c.placed.ensures ∙ ap (λ (m : NotedView). m.placed) c.moves.ensures) i)) in
+    let none : c.args.moves.now.freed ≡ slices_of old.purse [] = c.requires.ready.freed ∙ sym (slices_none old.purse) in (
+      record { is_file = refl; room = omega (arith, c.saturating_add.ensures, c.length-old.ensures) },
       record {
+        is_file = refl;
         number_is = ens.length;
         long = ens.long;
-        sound = ens.sound;
-        bytes = subst (λ (h : HomeView g.row.K.Denot). (m : map.Blocks) (b : List ℕ) → Holds m (told h.shelf) h.user h.seats.blocks → IsFile h.seats.size m file b
-            → IsGrown m (told c.append.new.home.shelf) h.user new file' (b ++ bytes)) is ens.bytes;
-        stay = ens.stay;
-        grows = subst (λ (n : ℕ). Grows (readied old n) (needed_last old file more) (drop (length file.blocks) file'.blocks) new) (sym (numbers_after old numbers file file' more new grew)) grows;
-        others = subst (λ (h : HomeView g.row.K.Denot). KeepsOthers h.seats.blocks new.blocks file'.blocks) is ens.others;
-        moves = c.set_placed.ensures ∙ ap (λ (r : List PlacedRow). record c.args.moves.now { placed = r }) (rows ∙ grown_rows old numbers file file' more new grew path);
-        room = room;
+        added = drop (length file.blocks) file'.blocks;
+        blocks = blocks_after old new.numbers file file' more new mine;
+        adds = mine.grows.adds;
+        moves = record {
+          sound = ens.sound;
+          own = grown_own old new.numbers file file' more new mine others;
+          alters = λ m k b held is. grown_bytes old new.numbers file file' more new mine (told c.append.new.home.shelf) home.user bytes m k b is (grown m is.0 held is.3);
+          slices = grown_moves old new.numbers file file' more new mine;
+          many = grown_many old new.numbers file file' more new mine;
+          moves =
+              c.set_placed.ensures
+              ∙ (λ i. record c.args.moves.now { freed = none i; placed = (rows ∙ grown_rows old numbers file file' more new grew path) i });
+        };
       },
     )
 
@@ -112,7 +126,7 @@ returns-in-Err-append-clause-appended g c =
     let is = prepared home c.clear_moves.new.self c.prepare.new.self c.clear_moves.ensures c.prepare.ensures.rest in
     let before : Keeping g.row.K.Denot = record { content = File file; home = home; moves = c.args.moves.now } in
     let after : Keeping g.row.K.Denot = record { content = File c.append.new.self; home = c.append.new.home; moves = c.args.moves.now } in
-    let fits : HasRoomFor before bytes = omega (arith, c.saturating_add.ensures, c.length-old.ensures) in
+    let fits : HasRoomFor before bytes = record { is_file = refl; room = omega (arith, c.saturating_add.ensures, c.length-old.ensures) } in
     let seats : c.append.new.home.seats ≡ readied old numbers = ens.seats_stay ∙ ap (λ (h : HomeView g.row.K.Denot). h.seats) is in
     let kept : IsKept told before after = record {
       content = ap (λ (f : FileView). File f) ens.file_stays;

@@ -1,45 +1,43 @@
-use Rattle.std.proofs.Common.{refl, sym}
+use Rattle.std.proofs.Common.{BTreeMap, refl, ap, sym}
+use Rattle.far_words.specs.declared.path.Path.{Path}
+use Rattle.tenant_world.specs.declared.names.Named.{Named}
 use Rattle.tenant_world.specs.Well.{tenant_view}
-use Rattle.tenant_world.proofs.Kept.{sound_found, kept_seats}
-use Rattle.tenant_world.proofs.Steps.{still_in, keeps_home, unmoved_itself}
+use Rattle.tenant_world.proofs.Kept.{sound_found}
+use Rattle.tenant_world.proofs.Steps.{still_in, keeps_home}
 use Rattle.tenant_world.proofs.Asking.{load_nowhere}
-use Rattle.tenant_world.proofs.Staying.{ready_of, keeps_stay, within_stays, ordered_stays, most_stays, room_stays}
-use Rattle.tenant_world.proofs.FileLoads.{load_serves, load_stands}
+use Rattle.tenant_world.proofs.Inside.{one_name, well_later}
+use Rattle.tenant_world.proofs.Loading.{load_serves, load_stands}
 use Rattle.tenant_world.proofs.tenant.Tenant.load.Goals as goal
 
 pub returns-in_default : goal.returns-in_default
 returns-in_default g c =
     let i = c.self.inside in
     rw (← c.self.view_is)
-    (load_nowhere g.K.Shelf.told g.K.Shelf.faults _ _ (still_in i c.self.view_is c.requires) (keeps_home _ _ _ _ refl refl) c.args.path.now (unmoved_itself _ _) (sym c.in_default.ensures.value))
+    (load_nowhere g.K.Shelf.told g.K.Shelf.faults _ _ (still_in i c.self.view_is c.requires) (keeps_home _ _ _ _ refl refl) c.args.path.now
+    (record { moment = refl; names = ap (λ (names : BTreeMap Path Named). names.entries) c.get_mut.follows.holds-at-none; user = refl; size = refl; strays = refl; purse = refl; blocks = refl; told_is = refl })
+    (sym c.in_default.ensures.value))
 
 pub load_content-requires-clause-sound : goal.load_content-requires-clause-sound
 load_content-requires-clause-sound g c =
     let i = c.self.inside in
     sound_found i.names.entries i.home.seats c.args.path.now c.in-Some.named.now c.self.invariant.kept (sym c.in-Some.ensures.value)
 
-pub invariant_of-self : goal.invariant_of-self
-invariant_of-self g c =
+pub invariant_of-self-2 : goal.invariant_of-self-2
+invariant_of-self-2 g c =
     let i = c.self.inside in
-    let named = c.in-Some.named.now in
-    let sound = sound_found i.names.entries i.home.seats c.args.path.now named c.self.invariant.kept (sym c.in-Some.ensures.value) in
-    let stands = load_stands g.K.Shelf.told g.K.Shelf.faults (tenant_view i) (tenant_view (record i { home = c.load_content.new.home; moves = c.load_content.new.moves })) (ready_of i c.self.invariant (still_in i c.self.view_is c.requires)) c.args.path.now named sound c.load_content.result c.load_content.ensures.loaded in
-    record {
-      within = within_stays _ _ stands.seats c.self.invariant.within;
-      ordered = ordered_stays _ _ stands.seats c.self.invariant.ordered;
-      most = most_stays _ _ stands.seats c.self.invariant.most;
-      room = room_stays _ _ stands.seats _ _ stands.room c.self.invariant.room;
-      order = stands.order;
-      kept = kept_seats i.names.entries _ _ stands.seats.size stands.lengths c.self.invariant.kept;
-    }
+    let named : Named = c.in-Some.named.now in
+    let w : Named = record { lease = named.lease; content = c.load_content.new.content } in
+    let still = still_in i c.self.view_is c.requires in
+    let one = one_name g.K.Shelf.told g.K.Shelf.faults i c.self.invariant still c.args.path.now named (sym c.in-Some.ensures.value) c.get_mut.ensures.ordered w.content (c.get_mut.follows.lender w) (c.get_mut.follows.holds w).0 c.load_content.new.home c.load_content.new.moves c.load_content.ensures.store in
+    well_later g.K.Shelf.told g.K.Shelf.faults i c.self.invariant still c.args.path.now named (sym c.in-Some.ensures.value) c.get_mut.ensures.ordered w.content (c.get_mut.follows.lender w) (c.get_mut.follows.holds w).0 c.load_content.new.home c.load_content.new.moves c.load_content.ensures.store
+    (load_stands g.K.Shelf.told g.K.Shelf.faults (tenant_view i) _ c.args.path.now named w one c.load_content.result c.load_content.ensures.loaded)
 
 pub returns : goal.returns
 returns g c =
     let i = c.self.inside in
-    let named = c.in-Some.named.now in
-    let sound = sound_found i.names.entries i.home.seats c.args.path.now named c.self.invariant.kept (sym c.in-Some.ensures.value) in
-    let ready = ready_of i c.self.invariant (still_in i c.self.view_is c.requires) in
-    let stands = load_stands g.K.Shelf.told g.K.Shelf.faults (tenant_view i) (tenant_view (record i { home = c.load_content.new.home; moves = c.load_content.new.moves })) ready c.args.path.now named sound c.load_content.result c.load_content.ensures.loaded in
+    let named : Named = c.in-Some.named.now in
+    let w : Named = record { lease = named.lease; content = c.load_content.new.content } in
+    let still = still_in i c.self.view_is c.requires in
+    let one = one_name g.K.Shelf.told g.K.Shelf.faults i c.self.invariant still c.args.path.now named (sym c.in-Some.ensures.value) c.get_mut.ensures.ordered w.content (c.get_mut.follows.lender w) (c.get_mut.follows.holds w).0 c.load_content.new.home c.load_content.new.moves c.load_content.ensures.store in
     rw (← c.self.view_is)
-    (load_serves g.K.Shelf.told g.K.Shelf.faults (tenant_view i) _ (keeps_stay g.K.Shelf.told g.K.Shelf.faults (tenant_view i) (tenant_view (record i { home = c.load_content.new.home; moves = c.load_content.new.moves })) refl refl stands.seats c.load_content.ensures.store)
-    refl c.self.invariant.kept.some_byte refl refl c.load_content.ensures.store.user ready c.args.path.now named (sym c.in-Some.ensures.value) sound (still_in i c.self.view_is c.requires) c.load_content.result c.load_content.ensures.loaded)
+    (load_serves g.K.Shelf.told g.K.Shelf.faults (tenant_view i) _ c.args.path.now named w one c.load_content.result c.load_content.ensures.loaded)

@@ -1,14 +1,10 @@
-use Rattle.std.proofs.Common.{◌≡◌, ℕ, true, false, is_some, List, [], refl, ap, sym, subst, ◌∙◌, Some, None}
+use Rattle.std.proofs.Common.{◌≡◌, ℕ, true, false, is_some, List, refl, sym, subst, Some, None}
 use Rattle.std.specs.declared.option.Option.{Option}
 use Rattle.std.specs.Map.{lookup}
 use Rattle.std.specs.BTreeMap.{is_at}
 use Rattle.far_words.specs.Paths.{bytes_cmp}
-use Rattle.block_file.specs.Files.{FileView, empty_file}
-use Rattle.far_history.specs.Layouts.{kept_blocks}
 use Rattle.tenant_world.specs.declared.names.Named.{Named}
-use Rattle.tenant_world.specs.declared.names.Content.TheVariants.{File}
-use Rattle.tenant_world.specs.Outlines.{kept_of}
-use Rattle.tenant_world.specs.Well.{AreKept, tenant_view}
+use Rattle.tenant_world.specs.Well.{AreKept}
 use Rattle.tenant_world.proofs.Kept.{kept_made}
 use Rattle.tenant_world.proofs.Steps.{still_in, keeps_home, unmoved_itself}
 use Rattle.tenant_world.proofs.Asking.{make_again, make_starved, make_done}
@@ -32,27 +28,25 @@ returns-then-contains_key g c =
 pub invariant_of-self : goal.invariant_of-self
 invariant_of-self g c =
     let i = c.self.inside in
-    let named : Named = record { lease = c.saturating_add-lease.result; content = File c.new.result } in
+    let named : Named = record { lease = c.saturating_add-lease.result; content = c.empty_content-content.result } in
     let none = none_of (lookup (is_at (bytes_cmp c.args.path)) i.names.entries) c.if-contains_key.ensures in
-    let bare : kept_blocks (kept_of named.content) ≡ [] = ap (λ (f : FileView). f.blocks) c.new.ensures.file in
     record {
       within = c.self.invariant.within;
       ordered = c.self.invariant.ordered;
       most = c.self.invariant.most;
       room = c.self.invariant.room;
       order = c.self.invariant.order;
-      kept = subst (λ (es : List (List ℕ × Named)). AreKept es i.home.seats) (sym c.in-Ok.ensures.entries) (kept_made i.names.entries i.home.seats c.args.path named c.self.invariant.kept none bare (c.new.ensures.sound i.home.seats));
+      kept = subst (λ (es : List (List ℕ × Named)). AreKept es i.home.seats) (sym c.in-Ok.ensures.entries) (kept_made i.names.entries i.home.seats c.args.path named c.self.invariant.kept none c.empty_content-content.ensures.blocks (c.empty_content-content.ensures.sound i.home.seats));
     }
 
 pub returns-in-Ok : goal.returns-in-Ok
 returns-in-Ok g c =
     let i = c.self.inside in
-    let named : Named = record { lease = c.saturating_add-lease.result; content = File c.new.result } in
+    let named : Named = record { lease = c.saturating_add-lease.result; content = c.empty_content-content.result } in
     let none = none_of (lookup (is_at (bytes_cmp c.args.path)) i.names.entries) c.if-contains_key.ensures in
-    let empty : named.content ≡ File empty_file = ap (λ (f : FileView). File f) c.new.ensures.file in
     rw (← c.self.view_is)
     (make_done g.K.Shelf.told g.K.Shelf.faults _ _ (still_in i c.self.view_is c.requires.still) (keeps_home _ _ _ _ refl refl) c.args.path c.args.kind c.args.span named
-    (record { moment = refl; names = c.in-Ok.ensures.entries; home = refl }) c.requires.top none c.saturating_add-lease.ensures empty)
+    (record { moment = refl; names = c.in-Ok.ensures.entries; home = refl }) c.requires.top none c.saturating_add-lease.ensures (sym c.empty_content-content.ensures.shows) c.empty_content-content.ensures.kept)
 
 pub returns : goal.returns
 returns g c =
@@ -60,4 +54,4 @@ returns g c =
     let none = none_of (lookup (is_at (bytes_cmp c.args.path)) i.names.entries) c.if-contains_key.ensures in
     rw (← c.self.view_is)
     (make_starved g.K.Shelf.told g.K.Shelf.faults _ _ (still_in i c.self.view_is c.requires.still) (keeps_home _ _ _ _ refl refl) c.args.path
-    (record { moment = refl; names = c.in-Err.ensures.err; user = refl; strays = refl; purse = refl; blocks = refl; told_is = refl }) c.args.kind c.args.span none c.requires.top)
+    (record { moment = refl; names = c.in-Err.ensures.err; user = refl; size = refl; strays = refl; purse = refl; blocks = refl; told_is = refl }) c.args.kind c.args.span none c.requires.top)

@@ -6,7 +6,6 @@ use Rattle.block_seats.specs.Seatings.{SeatingView, granted_of}
 use Rattle.std.specs.BTreeMap.{is_at}
 use Rattle.std.proofs.lemmas.Map.Steps.{set_value_same}
 use Rattle.far_words.specs.Paths.{bytes_cmp}
-use Rattle.far_words.specs.declared.request.TheConstants.{MOST_IN_REQUEST}
 use Rattle.far_words.specs.declared.path.Path.{Path}
 use Rattle.tenant_world.specs.declared.names.Named.{Named}
 use Rattle.tenant_world.specs.declared.names.Content.{Content}
@@ -14,7 +13,7 @@ use Rattle.tenant_world.specs.Well.{AreKept, tenant_view}
 use Rattle.tenant_world.proofs.Kept.{sound_found}
 use Rattle.tenant_world.proofs.Steps.{still_in, keeps_home, unmoved_itself}
 use Rattle.tenant_world.proofs.Asking.{read_long, read_nowhere}
-use Rattle.tenant_world.proofs.FileReads.{read_serves, keeps_shelf, unmoved_shelf, seats_shelf}
+use Rattle.tenant_world.proofs.FileReads.{read_in_content, keeps_shelf, unmoved_shelf, seats_shelf}
 use Rattle.tenant_world.proofs.tenant.Tenant.read.Goals as goal
 
 pub returns-then-from-gt-MOST_IN_REQUEST : goal.returns-then-from-gt-MOST_IN_REQUEST
@@ -25,7 +24,7 @@ returns-in_default g c =
     let i = c.self.inside in
     rw (← c.self.view_is)
     (read_nowhere g.K.Shelf.told g.K.Shelf.faults _ _ (still_in i c.self.view_is c.requires) (keeps_home _ _ _ _ refl refl) c.args.path.now
-    (record { moment = refl; names = ap (λ (names : BTreeMap Path Named). names.entries) c.get_mut.follows.holds-at-none; user = refl; strays = refl; purse = refl; blocks = refl; told_is = refl })
+    (record { moment = refl; names = ap (λ (names : BTreeMap Path Named). names.entries) c.get_mut.follows.holds-at-none; user = refl; size = refl; strays = refl; purse = refl; blocks = refl; told_is = refl })
     c.args.from c.args.len (omega arith) (sym c.in_default.ensures.value))
 
 pub read_content-requires : goal.read_content-requires
@@ -58,9 +57,8 @@ returns g c =
     let w : Named = record { lease = named.lease; content = c.read_content.new.content } in
     let names = (c.get_mut.follows.holds w).0 ∙ ap (λ (x : Content). set_value (is_at (bytes_cmp c.args.path.now)) es (record { lease = named.lease; content = x })) c.read_content.ensures.content ∙ set_value_same (is_at (bytes_cmp c.args.path.now)) es named (sym c.in-Some.ensures.value) in
     rw (← c.self.view_is)
-    (read_serves g.K.Shelf.told g.K.Shelf.faults (tenant_view i) _ (still_in i c.self.view_is c.requires)
+    (read_in_content g.K.Shelf.told g.K.Shelf.faults (tenant_view i) _ (still_in i c.self.view_is c.requires)
     (keeps_shelf g.K.Shelf.told g.K.Shelf.faults (tenant_view i) _ c.read_content.ensures.home refl refl c.read_content.ensures.store)
     (unmoved_shelf g.K.Shelf.told g.K.Shelf.faults (tenant_view i) _ c.read_content.ensures.home refl names c.read_content.ensures.told)
-    refl c.self.invariant.kept.some_byte c.args.path.now named (sym c.in-Some.ensures.value)
-    (sound_found i.names.entries i.home.seats c.args.path.now named c.self.invariant.kept (sym c.in-Some.ensures.value))
+    refl c.args.path.now named (sym c.in-Some.ensures.value)
     c.args.from c.args.len (omega arith) c.read_content.result c.read_content.ensures.read)
