@@ -61,6 +61,15 @@ pub fn read_work(words: &[String], kind: Kind) -> Option<ThreadWork> {
     })
 }
 
+/// Four threads that each make 25 calls.
+pub fn little(kind: Kind) -> ThreadWork {
+    ThreadWork {
+        kind,
+        threads: 4,
+        calls: 25,
+    }
+}
+
 // So many calls of one thread through its pass.
 fn call_cell<R: Wait>(rt: &R, cell: &TurnCell<Worker>, mut pass: Pass<Worker>, calls: u32)
     requires cell { pass.cell ≡ cell.now }

@@ -191,3 +191,43 @@ fn a_file_is_parked_and_read(rt: HostRuntime) -> Result<(), Fail> {
     );
     Ok(())
 }
+
+#[test]
+fn a_queue_is_parked_and_popped(rt: HostRuntime) -> Result<(), Fail> {
+    let shape = Shape::store(1, 1, 1, 0, 64)?;
+    let mut core = Core::new(rt.alloc(), shape, one_shelf(&rt, &[])?)?;
+    let path = Path::parse(b"q").ok_or("a path")?;
+    let make = Request::Make {
+        path: path.copy(),
+        kind: Kind::Queue,
+        span: 9,
+    };
+    for (event, outcome) in [
+        (CoreEvent::Draw, drawn(0)),
+        (CoreEvent::Grant { user: 0 }, granted(0)),
+        (asked(make), Outcome::Reply(Reply::Done)),
+    ] {
+        expect(&rt, &mut core, event, outcome, &[]);
+    }
+    let item = Blob::from_slice(rt.alloc(), b"hi")?;
+    let push = Request::Push {
+        path: path.copy(),
+        item,
+    };
+    expect(
+        &rt,
+        &mut core,
+        asked(push),
+        Outcome::Reply(Reply::Done),
+        &[row(&path, 0)],
+    );
+    let park = Request::Park { path: path.copy() };
+    assert_eq!(rt; core.step(asked(park)), Outcome::Reply(Reply::Done));
+    assert!(rt; core.moves().freed() == [(0, 2)].as_slice());
+    let item = Blob::from_slice(rt.alloc(), b"hi")?;
+    for reply in [Reply::Item(item), Reply::Nothing] {
+        let pop = Request::Pop { path: path.copy() };
+        expect(&rt, &mut core, asked(pop), Outcome::Reply(reply), &[]);
+    }
+    Ok(())
+}

@@ -16,8 +16,8 @@ pub enum Question {
 }
 
 const ABOUT: &str = "\
-far_memory keeps users' files in memory that is cut into fixed slices, and divides
-the slices among users by a credit rule.
+far_memory keeps users' files and queues in memory that is cut into fixed slices, and
+divides the slices among users by a credit rule.
 
     far_memory plan USERS FAIR FLOOR CREDITS
     far_memory audit USERS FAIR FLOOR CREDITS
@@ -61,12 +61,17 @@ far_memory replay USERS FAIR FLOOR CREDITS SLICE
     At most 4294967296 lines:
         draw                      the pool's lowest slice moves into the hand
         grant U                   the slice that came last into the hand goes to user U
-        make U PATH file SPAN     a new file, whose lease ends after SPAN
+        make U PATH KIND SPAN     a new file or queue, whose lease ends after SPAN; KIND
+                                  is file or queue
         append U PATH E           bytes at the end of a file; E is an escaped text
         read U PATH FROM LEN      bytes of a file
         length U PATH             the length of a file
-        park U PATH               the blocks of a file move into the store
-        load U PATH               the parked blocks of a file come back into slices
+        push U PATH E             an item at the end of a queue, of SLICE - 4 bytes at most
+        pop U PATH                the first item of a queue, which is then gone
+        front U PATH              the first item of a queue, which stays
+        count U PATH              how many items a queue has
+        park U PATH               the blocks of a name move into the store
+        load U PATH               the parked blocks of a name come back into slices
     Example:
         $ printf 'draw\\ngrant 0\\nmake 0 f file 9\\nappend 0 f hello\\n' | far_memory replay 1 4 4 0 64
         slice 0 0

@@ -4,37 +4,19 @@
 mod help;
 #[cfg(test)]
 mod tests;
+mod words;
 
 ghost use Rattle.std.specs.Prelude.{◌≡◌, length, IfOk};
 
 use far_io::{ReadSource, Sink, WriteFault, WriteSink, put_all};
 use far_top::{RanTold, run_told, shelf_count};
 use help::{Question, parts, question_of};
-use run_end::{Status, Why};
+use run_end::{Status, Why, put_bad_words};
 use shelf_link::ShelfMem;
 use std::alloc::{AllocError, Global};
-use std::env::{self, Env};
-use std::io::{Error, ErrorKind};
+use std::io::Error;
 use std::process::ExitCode;
-
-/// The words after the program's name. There are none where one of them isn't UTF-8, so that they are bad words.
-fn words_of<R: Env + AllocGlobal>(rt: &R) -> Result<Vec<String>, AllocError> {
-    let mut words = Vec::new(rt.alloc());
-    match env::args(rt) {
-        Ok(args) => {
-            for word in args.skip(1) {
-                words.push(word)?;
-            }
-            Ok(words)
-        }
-        Err(error) => {
-            if error.kind() == ErrorKind::OutOfMemory {
-                return Err(AllocError);
-            }
-            Ok(words)
-        }
-    }
-}
+use words::words_of;
 
 /// Writes what was asked for.
 fn put_parts<O: Sink>(question: Question, sink: &mut O) -> Result<(), WriteFault> {
@@ -107,14 +89,28 @@ fn put_help(rt: &HostRuntime) {
     }
 }
 
-fn main(rt: HostRuntime) -> ExitCode {
-    let Ok(words) = words_of(&rt) else {
-        explain(&rt, Why::NoMemory, None);
-        return ExitCode::from(Status::NoMemory.code());
+/// Ends a program that got no words: bad ones with their last line, and with why.
+fn refuse(rt: &HostRuntime, why: Why) -> Status {
+    let mut sink = WriteSink::new(rt.stdout());
+    let told = match why {
+        Why::BadWords { fault: _ } => put_bad_words(&mut sink),
+        _ => Ok(()),
     };
-    let status = match question_of(words.as_slice()) {
-        Some(question) => tell(&rt, question),
-        None => run(&rt, words.as_slice()),
+    let why = match told {
+        Ok(()) => why,
+        Err(WriteFault) => Why::WriteFault,
+    };
+    explain(rt, why, sink.last_error());
+    why.status()
+}
+
+fn main(rt: HostRuntime) -> ExitCode {
+    let status = match words_of(&rt) {
+        Ok(words) => match question_of(words.as_slice()) {
+            Some(question) => tell(&rt, question),
+            None => run(&rt, words.as_slice()),
+        },
+        Err(why) => refuse(&rt, why),
     };
     ExitCode::from(status.code())
 }

@@ -1,11 +1,10 @@
 -- The words of a request: one verb has only the requests of its kind.
-use Rattle.std.proofs.Common.{◌≡◌, ◌≢◌, ℕ, ◌+◌, ◌<◌, true, false, eqb, List, [], ◌∷◌, ◌++◌, length, take, get_or, refl, sym, ◌∙◌, ap, subst}
+use Rattle.std.proofs.Common.{◌≡◌, ◌≢◌, ℕ, true, false, eqb, List, [], ◌∷◌, refl, sym, ◌∙◌, ap}
 use Rattle.std.specs.Cmp.Lexicographic.{pointwise}
 use Rattle.std.proofs.lemmas.Bool.{false≢true, and_from, eq-eqb}
-use Rattle.std.proofs.lemmas.List.{take_more}
-use Rattle.far_words.specs.declared.request.Request.TheVariants.{Make, Append, Read, Length, Park, Load}
+use Rattle.far_words.specs.declared.request.Request.TheVariants.{Make, Append, Read, Length, Push, Pop, Front, Count, Park, Load}
 use Rattle.script_text.specs.declared.verb.Verb.{Verb}
-use Rattle.script_text.specs.declared.verb.Verb.TheVariants.{Make as Makes, Append as Appends, Read as Reads, Length as Measures, Park as Parks, Load as Loads}
+use Rattle.script_text.specs.declared.verb.Verb.TheVariants.{Make as Makes, Append as Appends, Read as Reads, Length as Measures, Push as Pushes, Pop as Pops, Front as Looks, Count as Counts, Park as Parks, Load as Loads}
 use Rattle.script_text.specs.Verbs.{verb_word}
 use Rattle.script_text.specs.Fields.{IsNotAsked}
 
@@ -22,12 +21,16 @@ no_verb word fields none (Make path kind span) asked = none Makes asked.word_is
 no_verb word fields none (Append path bytes) asked = none Appends asked.word_is
 no_verb word fields none (Read path from len) asked = none Reads asked.word_is
 no_verb word fields none (Length path) asked = none Measures asked.word_is
+no_verb word fields none (Push path item) asked = none Pushes asked.word_is
+no_verb word fields none (Pop path) asked = none Pops asked.word_is
+no_verb word fields none (Front path) asked = none Looks asked.word_is
+no_verb word fields none (Count path) asked = none Counts asked.word_is
 no_verb word fields none (Park path) asked = none Parks asked.word_is
 no_verb word fields none (Load path) asked = none Loads asked.word_is
 
 -- the verbs
 abbrev pub all_verbs : List Verb
-all_verbs = Makes ∷ Appends ∷ Reads ∷ Measures ∷ Parks ∷ Loads ∷ []
+all_verbs = Makes ∷ Appends ∷ Reads ∷ Measures ∷ Pushes ∷ Pops ∷ Looks ∷ Counts ∷ Parks ∷ Loads ∷ []
 
 -- the word is that of none of these verbs
 abbrev pub NoneOf : List ℕ → List Verb → Type 0

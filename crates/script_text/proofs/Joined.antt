@@ -48,10 +48,10 @@ colons_before piece word (part ∷ parts) some =
     let rest = join_with_byte 58 (part ∷ parts) in
     append_assoc piece (word ++ 58 ∷ []) rest ∙ ap (λ t. piece ++ t) (append_assoc word (58 ∷ []) rest)
 
--- the line of bytes that were read
-pub ended_bytes : (text : List ℕ) → ended ((98 ∷ 121 ∷ 116 ∷ 101 ∷ 115 ∷ []) ∷ text ∷ []) ≡ ((98 ∷ 121 ∷ 116 ∷ 101 ∷ 115 ∷ 32 ∷ []) ++ text) ++ 10 ∷ []
+-- the line of a word and an escaped text
+pub ended_text : (word text : List ℕ) → ended (word ∷ text ∷ []) ≡ ((word ++ 32 ∷ []) ++ text) ++ 10 ∷ []
 unfolding joined
-ended_bytes text = refl
+ended_text word text = ap (λ t. t ++ 10 ∷ []) (sym (append_assoc word (32 ∷ []) text))
 
 regroup : (a b c d e f : List ℕ) → ((((a ++ b) ++ c) ++ d) ++ e) ++ f ≡ a ++ (b ++ (c ++ (d ++ (e ++ f))))
 regroup a b c d e f = simp append_assoc

@@ -10,9 +10,9 @@ use Rattle.far_io.specs.Words.{words_of, HasNoSpace}
 use Rattle.far_io.proofs.Escapes.{escaped_one_word}
 use Rattle.far_io.proofs.WordLaws.{HaveNoSpace, words_of-joined, joined-words_of, decimal_one_word, no_space_by_test}
 use Rattle.far_words.specs.declared.request.Kind.{Kind}
-use Rattle.far_words.specs.declared.request.Kind.TheVariants.{File}
+use Rattle.far_words.specs.declared.request.Kind.TheVariants.{File, Queue}
 use Rattle.far_words.specs.declared.request.Request.{Request}
-use Rattle.far_words.specs.declared.request.Request.TheVariants.{Make, Append, Read, Length, Park, Load}
+use Rattle.far_words.specs.declared.request.Request.TheVariants.{Make, Append, Read, Length, Push, Pop, Front, Count, Park, Load}
 use Rattle.script_text.specs.declared.line.ScriptLine.{ScriptLine}
 use Rattle.script_text.specs.declared.line.ScriptLine.TheVariants.{Ask, Draw, Grant}
 use Rattle.script_text.specs.Words.{joined}
@@ -23,12 +23,17 @@ use Rattle.script_text.proofs.ReadBack.{same, wide, word_at, number_at, number_b
 
 kind_one_word : (kind : Kind) → HasNoSpace (kind_word kind)
 kind_one_word File = no_space_by_test (codes "file") refl
+kind_one_word Queue = no_space_by_test (codes "queue") refl
 
 fields_apart : (request : Request) → IsRequest request → HaveNoSpace (field_words request)
 fields_apart (Make path kind span) within = (word_no_space path (path_word path within.0), (kind_one_word kind, (decimal_one_word span within.1, tt)))
 fields_apart (Append path bytes) within = (word_no_space path (path_word path within.0), (escaped_one_word bytes, tt))
 fields_apart (Read path from len) within = (word_no_space path (path_word path within.0), (decimal_one_word from within.1, (decimal_one_word len (wide len within.2), tt)))
 fields_apart (Length path) within = (word_no_space path (path_word path within), tt)
+fields_apart (Push path item) within = (word_no_space path (path_word path within.0), (escaped_one_word item, tt))
+fields_apart (Pop path) within = (word_no_space path (path_word path within), tt)
+fields_apart (Front path) within = (word_no_space path (path_word path within), tt)
+fields_apart (Count path) within = (word_no_space path (path_word path within), tt)
 fields_apart (Park path) within = (word_no_space path (path_word path within), tt)
 fields_apart (Load path) within = (word_no_space path (path_word path within), tt)
 
@@ -37,6 +42,10 @@ verb_apart (Make path kind span) = no_space_by_test (codes "make") refl
 verb_apart (Append path bytes) = no_space_by_test (codes "append") refl
 verb_apart (Read path from len) = no_space_by_test (codes "read") refl
 verb_apart (Length path) = no_space_by_test (codes "length") refl
+verb_apart (Push path item) = no_space_by_test (codes "push") refl
+verb_apart (Pop path) = no_space_by_test (codes "pop") refl
+verb_apart (Front path) = no_space_by_test (codes "front") refl
+verb_apart (Count path) = no_space_by_test (codes "count") refl
 verb_apart (Park path) = no_space_by_test (codes "park") refl
 verb_apart (Load path) = no_space_by_test (codes "load") refl
 
@@ -60,17 +69,26 @@ no_line_from_words text none = λ line within same. none line (record { words_ar
 -- the request of a word and the words after that of the user
 abbrev request_from : List ℕ → List (List ℕ) → Request
 request_from word fields =
-    cond (same word (codes "make")) (Make (word_at fields 0) File (number_at fields 2))
+    cond (same word (codes "make")) (Make (word_at fields 0) (cond (same (word_at fields 1) (codes "file")) File Queue) (number_at fields 2))
     (cond (same word (codes "append")) (Append (word_at fields 0) (bytes_at fields 1))
     (cond (same word (codes "read")) (Read (word_at fields 0) (number_at fields 1) (number_at fields 2))
     (cond (same word (codes "length")) (Length (word_at fields 0))
-    (cond (same word (codes "park")) (Park (word_at fields 0)) (Load (word_at fields 0))))))
+    (cond (same word (codes "push")) (Push (word_at fields 0) (bytes_at fields 1))
+    (cond (same word (codes "pop")) (Pop (word_at fields 0))
+    (cond (same word (codes "front")) (Front (word_at fields 0))
+    (cond (same word (codes "count")) (Count (word_at fields 0))
+    (cond (same word (codes "park")) (Park (word_at fields 0)) (Load (word_at fields 0))))))))))
 
 request_back : (request : Request) → IsRequest request → request_from (request_word request) (field_words request) ≡ request
 request_back (Make path File span) within = ap (Make path File) (number_back span within.1)
+request_back (Make path Queue span) within = ap (Make path Queue) (number_back span within.1)
 request_back (Append path bytes) within = ap (Append path) (bytes_back bytes)
 request_back (Read path from len) within = λ i. Read path (number_back from within.1 i) (number_back len (wide len within.2) i)
 request_back (Length path) within = refl
+request_back (Push path item) within = ap (Push path) (bytes_back item)
+request_back (Pop path) within = refl
+request_back (Front path) within = refl
+request_back (Count path) within = refl
 request_back (Park path) within = refl
 request_back (Load path) within = refl
 
@@ -80,6 +98,10 @@ no_draw (Make path kind span) = refl
 no_draw (Append path bytes) = refl
 no_draw (Read path from len) = refl
 no_draw (Length path) = refl
+no_draw (Push path item) = refl
+no_draw (Pop path) = refl
+no_draw (Front path) = refl
+no_draw (Count path) = refl
 no_draw (Park path) = refl
 no_draw (Load path) = refl
 
@@ -88,6 +110,10 @@ no_grant (Make path kind span) = refl
 no_grant (Append path bytes) = refl
 no_grant (Read path from len) = refl
 no_grant (Length path) = refl
+no_grant (Push path item) = refl
+no_grant (Pop path) = refl
+no_grant (Front path) = refl
+no_grant (Count path) = refl
 no_grant (Park path) = refl
 no_grant (Load path) = refl
 

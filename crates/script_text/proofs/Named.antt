@@ -1,5 +1,5 @@
 -- Each outcome and each row of moves has words of its own.
-use Rattle.std.proofs.Common.{◌≡◌, ℕ, ◌<◌, ◌≤◌, ◌||◌, Bool, true, false, cond, List, [], ◌∷◌, ◌++◌, refl, sym, ◌∙◌, ap, subst, append_assoc, append-nil, arith}
+use Rattle.std.proofs.Common.{◌≡◌, ℕ, ◌≤◌, ◌||◌, Bool, true, false, cond, List, [], ◌∷◌, ◌++◌, refl, sym, ◌∙◌, ap, subst, append_assoc, append-nil, arith}
 use Rattle.std.specs.Prelude.{codes}
 use Rattle.std.specs.Fmt.{decimal}
 use Rattle.std.specs.List.{list_all}
@@ -8,7 +8,7 @@ use Rattle.std.proofs.lemmas.Fmt.{decimal_injective}
 use Rattle.far_io.specs.Escapes.{escaped}
 use Rattle.far_io.specs.Words.{words_of}
 use Rattle.far_io.proofs.WordLaws.{words_of-joined}
-use Rattle.far_words.specs.declared.request.Reply.TheVariants.{Done, Number, Bytes, TooLong, Absent, WrongKind, Exists, Full, Exhausted, StoreFault, Damaged, AbsentUser, NoMemory}
+use Rattle.far_words.specs.declared.request.Reply.TheVariants.{Done, Number, Bytes, Item, Nothing, TooLong, Absent, WrongKind, Exists, Full, Exhausted, StoreFault, Damaged, AbsentUser, NoMemory}
 use Rattle.far_words.specs.declared.request.Outcome.{Outcome}
 use Rattle.far_words.specs.declared.request.Outcome.TheVariants.{Reply as Replied, Slice, Granted, HandEmpty, PoolEmpty}
 use Rattle.far_words.specs.declared.moves.PlacedRow.{PlacedRow}
@@ -26,6 +26,8 @@ outcome_from word others =
     cond (same word (codes "done")) (Replied Done)
     (cond (same word (codes "number")) (Replied (Number (number_at others 0)))
     (cond (same word (codes "bytes")) (Replied (Bytes (bytes_at others 0)))
+    (cond (same word (codes "item")) (Replied (Item (bytes_at others 0)))
+    (cond (same word (codes "nothing")) (Replied Nothing)
     (cond (same word (codes "toolong")) (Replied (TooLong (number_at others 0)))
     (cond (same word (codes "absent")) (Replied Absent)
     (cond (same word (codes "wrongkind")) (Replied WrongKind)
@@ -38,7 +40,7 @@ outcome_from word others =
     (cond (same word (codes "nomemory")) (Replied NoMemory)
     (cond (same word (codes "slice")) (Slice (number_at others 0) (number_at others 1))
     (cond (same word (codes "granted")) (Granted (number_at others 0) (number_at others 1))
-    (cond (same word (codes "handempty")) HandEmpty PoolEmpty)))))))))))))))
+    (cond (same word (codes "handempty")) HandEmpty PoolEmpty)))))))))))))))))
 
 abbrev is_name : List ℕ → Bool
 is_name [] = false
@@ -63,6 +65,9 @@ named (Replied (Number n)) =
     record { word = codes "number"; others = decimal n ∷ []; words_are = refl; name = refl; are = λ f. (decimal_word n f, tt); back = λ f. ap (λ m. Replied (Number m)) (number_back n f) }
 named (Replied (Bytes bytes)) =
     record { word = codes "bytes"; others = escaped bytes ∷ []; words_are = refl; name = refl; are = λ f. (escaped_word bytes, tt); back = λ f. ap (λ b. Replied (Bytes b)) (bytes_back bytes) }
+named (Replied (Item item)) =
+    record { word = codes "item"; others = escaped item ∷ []; words_are = refl; name = refl; are = λ f. (escaped_word item, tt); back = λ f. ap (λ b. Replied (Item b)) (bytes_back item) }
+named (Replied Nothing) = alone (Replied Nothing) (codes "nothing") refl refl refl
 named (Replied (TooLong limit)) =
     record { word = codes "toolong"; others = decimal limit ∷ []; words_are = refl; name = refl; are = λ f. (decimal_word limit f, tt); back = λ f. ap (λ m. Replied (TooLong m)) (number_back limit f) }
 named (Replied Absent) = alone (Replied Absent) (codes "absent") refl refl refl

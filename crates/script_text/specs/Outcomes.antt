@@ -3,7 +3,7 @@ use Rattle.std.specs.Prelude.{◌≡◌, ℕ, ◌^◌, ◌<◌, ◌==◌, ◌||�
 use Rattle.std.specs.Fmt.{decimal}
 use Rattle.far_io.specs.Escapes.{escaped}
 use Rattle.far_words.specs.declared.request.Reply.{Reply}
-use Rattle.far_words.specs.declared.request.Reply.TheVariants.{Done, Number, Bytes, TooLong, Absent, WrongKind, Exists, Full, Exhausted, StoreFault, Damaged, AbsentUser, NoMemory}
+use Rattle.far_words.specs.declared.request.Reply.TheVariants.{Done, Number, Bytes, Item, Nothing, TooLong, Absent, WrongKind, Exists, Full, Exhausted, StoreFault, Damaged, AbsentUser, NoMemory}
 use Rattle.far_words.specs.declared.request.Outcome.{Outcome}
 use Rattle.far_words.specs.declared.request.Outcome.TheVariants.{Reply as Replied, Slice, Granted, HandEmpty, PoolEmpty}
 use Rattle.script_text.specs.Words.{ended, HasNoEnd}
@@ -13,6 +13,8 @@ abbrev pub reply_words : Reply → List (List ℕ)
 reply_words Done = codes "done" ∷ []
 reply_words (Number number) = codes "number" ∷ decimal number ∷ []
 reply_words (Bytes bytes) = codes "bytes" ∷ escaped bytes ∷ []
+reply_words (Item item) = codes "item" ∷ escaped item ∷ []
+reply_words Nothing = codes "nothing" ∷ []
 reply_words (TooLong limit) = codes "toolong" ∷ decimal limit ∷ []
 reply_words Absent = codes "absent" ∷ []
 reply_words WrongKind = codes "wrongkind" ∷ []

@@ -27,9 +27,11 @@ fn fields_after(first: &[u8]) -> Option<&'static [Field]> {
         b"draw" => Some(&[]),
         b"grant" => Some(&[USER]),
         b"make" => Some(&[USER, Field::Path, Field::Kind, NUMBER]),
-        b"append" => Some(&[USER, Field::Path, Field::Escape]),
+        b"append" | b"push" => Some(&[USER, Field::Path, Field::Escape]),
         b"read" => Some(&[USER, Field::Path, NUMBER, USER]),
-        b"length" | b"park" | b"load" => Some(&[USER, Field::Path]),
+        b"length" | b"pop" | b"front" | b"count" | b"park" | b"load" => {
+            Some(&[USER, Field::Path])
+        }
         _ => None,
     }
 }
@@ -53,7 +55,7 @@ fn fault_of(field: Field, word: &[u8], place: u64) -> Option<LineFault> {
             Some(_) => None,
         },
         Field::Kind => match word {
-            b"file" => None,
+            b"file" | b"queue" => None,
             _ => Some(LineFault::NoKind { word: place }),
         },
         Field::Escape => None,
@@ -61,7 +63,7 @@ fn fault_of(field: Field, word: &[u8], place: u64) -> Option<LineFault> {
 }
 
 /// What is wrong with a line that is outside the grammar: its first word, the count of its words, or else the first of them
-/// that isn't what it has to be. The escaped text of an `append` is the last, so it is at fault where nothing before it is.
+/// that isn't what it has to be. The escaped text of a line is its last word, so it is at fault where nothing before it is.
 pub fn explain_line(line: &[u8]) -> LineFault {
     let (first, mut rest) = split_word(line);
     let Some(fields) = fields_after(first) else {

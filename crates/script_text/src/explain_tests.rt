@@ -5,7 +5,7 @@ use std::test::Fail;
 
 #[test]
 fn faults_of_lines(rt: HostRuntime) -> Result<(), Fail> {
-    let cases: [(&[u8], &str); 20] = [
+    let cases: [(&[u8], &str); 24] = [
         (b"", "no line begins with its first word"),
         (b"Draw", "no line begins with its first word"),
         (b"quantum", "no line begins with its first word"),
@@ -27,6 +27,10 @@ fn faults_of_lines(rt: HostRuntime) -> Result<(), Fail> {
         (b"park 0", "words wanted: 3, found: 2"),
         (b"load x f", "word 2 is no decimal"),
         (b"load 0 a//b", "word 3 is no path"),
+        (b"make 0 q queues 9", "word 4 is no kind of structure"),
+        (b"push 0 q", "words wanted: 4, found: 3"),
+        (b"pop x q", "word 2 is no decimal"),
+        (b"count 0 q/", "word 3 is no path"),
         (b"append 0 f ", "word 4 is no escaped text"),
         (b"append 0 f %4", "word 4 is no escaped text"),
     ];

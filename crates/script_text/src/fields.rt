@@ -44,10 +44,13 @@ pub fn next_kind(words: Option<&[u8]>) -> Option<(Kind, Option<&[u8]>)>
     ensures nothing { IfNone result ((kind : Kind) (others : List (List ℕ)) → words_after (option_copied words.entry) ≢ kind_word kind ∷ others) }
 {
     let (word, others) = split_word(words?);
-    if !is_word(word, b"file") {
-        return None;
+    if is_word(word, b"file") {
+        return Some((Kind::File, others));
     }
-    Some((Kind::File, others))
+    if is_word(word, b"queue") {
+        return Some((Kind::Queue, others));
+    }
+    None
 }
 
 /// The number that the one word which is left spells, where it is a decimal of at most `limit`.
@@ -77,4 +80,23 @@ pub fn last_bytes(alloc: Global, words: Option<&[u8]>) -> Result<Option<Blob>, A
         return Ok(None);
     }
     parse_escaped(alloc, word)
+}
+
+/// The path and the bytes for which the two words that are left stand.
+pub fn path_and_bytes(
+    alloc: Global,
+    words: Option<&[u8]>,
+) -> Result<Option<(Path, Blob)>, AllocError>
+    ensures fields { IfOk result (λ found. IfSome found (λ fields. words_after (option_copied words.entry) ≡ fields.0 ∷ escaped fields.1 ∷ [])) }
+    ensures grammar { IfOk result (λ found. IfSome found (λ fields. IsTrue (Paths.is_path fields.0))) }
+    ensures within { IfOk result (λ found. IfSome found (λ fields. AreBytes fields.1)) }
+    ensures nothing { IfOk result (λ found. IfNone found ((path bytes : List ℕ) → IsTrue (Paths.is_path path) → AreBytes bytes → words_after (option_copied words.entry) ≢ path ∷ escaped bytes ∷ [])) }
+{
+    let Some((path, others)) = next_path(words) else {
+        return Ok(None);
+    };
+    match last_bytes(alloc, others)? {
+        Some(bytes) => Ok(Some((path, bytes))),
+        None => Ok(None),
+    }
 }

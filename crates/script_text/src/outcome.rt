@@ -32,15 +32,21 @@ fn put_line<O: Sink>(
     Ok(())
 }
 
-/// Puts the line of bytes that were read.
-fn put_bytes<O: Sink>(bytes: &[u8], sink: &mut O, piece: &mut Piece) -> Result<(), WriteFault>
-    ensures sends { OnOk result (Sends O.took sink.old sink.new piece.old piece.new (ended (codes "bytes" ∷ escaped bytes.now ∷ []))) }
-    ensures prefix { OnErr result (AddsPrefix O.took sink.old sink.new (piece.old ++ ended (codes "bytes" ∷ escaped bytes.now ∷ []))) }
+/// Puts the line of a word and an escaped text.
+fn put_bytes<O: Sink>(
+    word: &[u8],
+    bytes: &[u8],
+    sink: &mut O,
+    piece: &mut Piece,
+) -> Result<(), WriteFault>
+    requires { length word.now + 1 ≤ 4096 }
+    ensures sends { OnOk result (Sends O.took sink.old sink.new piece.old piece.new (ended (word.now ∷ escaped bytes.now ∷ []))) }
+    ensures prefix { OnErr result (AddsPrefix O.took sink.old sink.new (piece.old ++ ended (word.now ∷ escaped bytes.now ∷ []))) }
     ensures cause { HasCause (O.faults sink.old) (O.faults sink.new) result }
 {
-    let word = b"bytes ";
-    make_room(sink, piece, word.len())?;
+    make_room(sink, piece, word.len() + 1)?;
     piece.push_all(word);
+    piece.push(b' ');
     push_escaped(sink, piece, bytes)?;
     make_room(sink, piece, 1)?;
     piece.push(b'\n');
@@ -73,7 +79,9 @@ fn put_reply<O: Sink>(reply: &Reply, sink: &mut O, piece: &mut Piece) -> Result<
     match reply {
         Reply::Done => put_line(b"done", &[], sink, piece),
         Reply::Number(number) => put_line(b"number", &[*number], sink, piece),
-        Reply::Bytes(bytes) => put_bytes(bytes.items(), sink, piece),
+        Reply::Bytes(bytes) => put_bytes(b"bytes", bytes.items(), sink, piece),
+        Reply::Item(item) => put_bytes(b"item", item.items(), sink, piece),
+        Reply::Nothing => put_line(b"nothing", &[], sink, piece),
         Reply::TooLong { limit } => put_line(b"toolong", &[*limit], sink, piece),
         Reply::Absent => put_line(b"absent", &[], sink, piece),
         Reply::WrongKind => put_line(b"wrongkind", &[], sink, piece),

@@ -5,7 +5,7 @@ ghost use Rattle.std.specs.Option.{option_copied};
 ghost use Rattle.far_io.specs.Words.{words_after};
 ghost use Rattle.script_text.specs.Fields.{IsAsked, IsNotAsked};
 
-use crate::fields::{last_bytes, last_number, last_path, next_kind, next_path};
+use crate::fields::{last_number, last_path, next_kind, next_path, path_and_bytes};
 use crate::verb::Verb;
 use far_io::next_number;
 use far_words::Request;
@@ -27,11 +27,8 @@ fn parse_append(alloc: Global, fields: Option<&[u8]>) -> Result<Option<Request>,
     ensures some { IfOk result (λ found. IfSome found (λ request. IsAsked (codes "append") (words_after (option_copied fields.entry)) request)) }
     ensures none { IfOk result (λ found. IfNone found (IsNotAsked (codes "append") (words_after (option_copied fields.entry)))) }
 {
-    let Some((path, fields)) = next_path(fields) else {
-        return Ok(None);
-    };
-    match last_bytes(alloc, fields)? {
-        Some(bytes) => Ok(Some(Request::Append { path, bytes })),
+    match path_and_bytes(alloc, fields)? {
+        Some((path, bytes)) => Ok(Some(Request::Append { path, bytes })),
         None => Ok(None),
     }
 }
@@ -58,6 +55,44 @@ fn parse_length(fields: Option<&[u8]>) -> Option<Request>
 {
     let path = last_path(fields)?;
     Some(Request::Length { path })
+}
+
+/// `PATH E`
+fn parse_push(alloc: Global, fields: Option<&[u8]>) -> Result<Option<Request>, AllocError>
+    ensures some { IfOk result (λ found. IfSome found (λ request. IsAsked (codes "push") (words_after (option_copied fields.entry)) request)) }
+    ensures none { IfOk result (λ found. IfNone found (IsNotAsked (codes "push") (words_after (option_copied fields.entry)))) }
+{
+    match path_and_bytes(alloc, fields)? {
+        Some((path, item)) => Ok(Some(Request::Push { path, item })),
+        None => Ok(None),
+    }
+}
+
+/// `PATH`
+fn parse_pop(fields: Option<&[u8]>) -> Option<Request>
+    ensures some { IfSome result (λ request. IsAsked (codes "pop") (words_after (option_copied fields.entry)) request) }
+    ensures none { IfNone result (IsNotAsked (codes "pop") (words_after (option_copied fields.entry))) }
+{
+    let path = last_path(fields)?;
+    Some(Request::Pop { path })
+}
+
+/// `PATH`
+fn parse_front(fields: Option<&[u8]>) -> Option<Request>
+    ensures some { IfSome result (λ request. IsAsked (codes "front") (words_after (option_copied fields.entry)) request) }
+    ensures none { IfNone result (IsNotAsked (codes "front") (words_after (option_copied fields.entry))) }
+{
+    let path = last_path(fields)?;
+    Some(Request::Front { path })
+}
+
+/// `PATH`
+fn parse_count(fields: Option<&[u8]>) -> Option<Request>
+    ensures some { IfSome result (λ request. IsAsked (codes "count") (words_after (option_copied fields.entry)) request) }
+    ensures none { IfNone result (IsNotAsked (codes "count") (words_after (option_copied fields.entry))) }
+{
+    let path = last_path(fields)?;
+    Some(Request::Count { path })
 }
 
 /// `PATH`
@@ -92,6 +127,10 @@ pub fn parse_request(
         Some(Verb::Append) => parse_append(alloc, fields),
         Some(Verb::Read) => Ok(parse_read(fields)),
         Some(Verb::Length) => Ok(parse_length(fields)),
+        Some(Verb::Push) => parse_push(alloc, fields),
+        Some(Verb::Pop) => Ok(parse_pop(fields)),
+        Some(Verb::Front) => Ok(parse_front(fields)),
+        Some(Verb::Count) => Ok(parse_count(fields)),
         Some(Verb::Park) => Ok(parse_park(fields)),
         Some(Verb::Load) => Ok(parse_load(fields)),
         None => Ok(None),

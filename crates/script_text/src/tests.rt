@@ -46,6 +46,40 @@ fn lines_within_the_grammar(rt: HostRuntime) -> Result<(), Fail> {
         line(&rt, b"length 0 f")?,
         ScriptLine::Ask { user: 0, request }
     );
+    let request = Request::Make {
+        path: path(b"q")?,
+        kind: Kind::Queue,
+        span: 0,
+    };
+    assert_eq!(rt;
+        line(&rt, b"make 0 q queue 0")?,
+        ScriptLine::Ask { user: 0, request }
+    );
+    Ok(())
+}
+
+#[test]
+fn lines_of_a_name_alone(rt: HostRuntime) -> Result<(), Fail> {
+    let request = Request::Pop { path: path(b"q")? };
+    assert_eq!(rt;
+        line(&rt, b"pop 0 q")?,
+        ScriptLine::Ask { user: 0, request }
+    );
+    let request = Request::Front {
+        path: path(b"job/q")?,
+    };
+    assert_eq!(rt;
+        line(&rt, b"front 4294967295 job/q")?,
+        ScriptLine::Ask {
+            user: u32::MAX,
+            request
+        }
+    );
+    let request = Request::Count { path: path(b"q")? };
+    assert_eq!(rt;
+        line(&rt, b"count 1 q")?,
+        ScriptLine::Ask { user: 1, request }
+    );
     let request = Request::Park { path: path(b"f")? };
     assert_eq!(rt;
         line(&rt, b"park 0 f")?,
@@ -62,7 +96,7 @@ fn lines_within_the_grammar(rt: HostRuntime) -> Result<(), Fail> {
 }
 
 #[test]
-fn appended_bytes_are_escaped(rt: HostRuntime) -> Result<(), Fail> {
+fn appended_and_pushed_bytes_are_escaped(rt: HostRuntime) -> Result<(), Fail> {
     let table: [(&[u8], &[u8]); 3] = [
         (b"append 1 f %", b""),
         (b"append 1 f a%20b%0A", b"a b\n"),
@@ -75,12 +109,20 @@ fn appended_bytes_are_escaped(rt: HostRuntime) -> Result<(), Fail> {
         };
         assert_eq!(rt; line(&rt, text)?, ScriptLine::Ask { user: 1, request });
     }
+    let items: [(&[u8], &[u8]); 2] = [(b"push 1 q %", b""), (b"push 1 q a%20b%0A", b"a b\n")];
+    for (text, item) in items {
+        let request = Request::Push {
+            path: path(b"q")?,
+            item: Blob::from_slice(rt.alloc(), item)?,
+        };
+        assert_eq!(rt; line(&rt, text)?, ScriptLine::Ask { user: 1, request });
+    }
     Ok(())
 }
 
 #[test]
 fn lines_outside_the_grammar(rt: HostRuntime) -> Result<(), Fail> {
-    let table: [&[u8]; 40] = [
+    let table: [&[u8]; 48] = [
         b"",
         b" ",
         b" draw",
@@ -94,6 +136,7 @@ fn lines_outside_the_grammar(rt: HostRuntime) -> Result<(), Fail> {
         b"grant 4294967296",
         b"make 0 f file",
         b"make 0 f dir 1",
+        b"make 0 q Queue 1",
         b"make 0 f File 1",
         b"make 0 f file 1 2",
         b"make 0 f file 01",
@@ -115,6 +158,13 @@ fn lines_outside_the_grammar(rt: HostRuntime) -> Result<(), Fail> {
         b"length 0",
         b"length 0 f ",
         b"length 0 f\n",
+        b"push 0 q",
+        b"push 0 q a b",
+        b"push 0 q %0a",
+        b"pop 0",
+        b"pop 0 q 1",
+        b"front 0 q ",
+        b"count q",
         b"park 0",
         b"park 0 f 1",
         b"park f",
@@ -147,6 +197,11 @@ fn outcome_lines(rt: HostRuntime) -> Result<(), Fail> {
             Outcome::Reply(Reply::Bytes(bytes)),
             b"bytes b%20%25\n".as_slice()
         ),
+        (
+            Outcome::Reply(Reply::Item(Blob::new(rt.alloc()))),
+            b"item %\n".as_slice()
+        ),
+        (Outcome::Reply(Reply::Nothing), b"nothing\n".as_slice()),
         (
             Outcome::Reply(Reply::TooLong { limit: 65536 }),
             b"toolong 65536\n".as_slice()

@@ -16,6 +16,10 @@ pub enum Verb {
     Append,
     Read,
     Length,
+    Push,
+    Pop,
+    Front,
+    Count,
     Park,
     Load,
 }
@@ -23,11 +27,15 @@ pub enum Verb {
 impl Verb {
     ghost use Rattle.script_text.specs.Verbs.{verb_word};
 
-    const ALL: [Verb; 6] = [
+    const ALL: [Verb; 10] = [
         Verb::Make,
         Verb::Append,
         Verb::Read,
         Verb::Length,
+        Verb::Push,
+        Verb::Pop,
+        Verb::Front,
+        Verb::Count,
         Verb::Park,
         Verb::Load,
     ];
@@ -40,6 +48,10 @@ impl Verb {
             Verb::Append => b"append",
             Verb::Read => b"read",
             Verb::Length => b"length",
+            Verb::Push => b"push",
+            Verb::Pop => b"pop",
+            Verb::Front => b"front",
+            Verb::Count => b"count",
             Verb::Park => b"park",
             Verb::Load => b"load",
         }
