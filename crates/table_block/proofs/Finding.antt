@@ -1,26 +1,22 @@
 -- A walk over a block's records, and what it has found.
-use Rattle.std.proofs.Common.{◌≡◌, ℕ, ◌+◌, ◌-◌, ◌<◌, Bool, true, false, cond, List, [], ◌∷◌, ◌++◌, length, take, drop, refl, sym, ap, subst, ◌∙◌, add_assoc, zero-add, append_assoc, append-nil, length-append, arith, Some, None}
-use Rattle.std.specs.Prelude.{All, IfSome, is_some, slice_range}
+use Rattle.std.proofs.Common.{◌≡◌, ℕ, ◌+◌, Bool, true, false, cond, List, [], ◌∷◌, ◌++◌, length, refl, sym, ap, subst, ◌∙◌, add_assoc, zero-add, append_assoc, length-append, arith, Some, None}
+use Rattle.std.specs.Prelude.{IfSome, is_some, slice_range}
 use Rattle.std.specs.declared.option.Option.{Option}
 use Rattle.std.specs.Str.{bytes_eq}
-use Rattle.std.proofs.lemmas.List.{take_at, drop_at, drop-drop, length-drop, nil_from_length}
-use Rattle.std.proofs.lemmas.List.Elements.{All-nil, All-push}
 use Rattle.table_block.specs.declared.spots.Spot.{Spot}
-use Rattle.table_block.specs.Records.{Record, record_size, records_size, Fits, spelling, spelled, IsBlock, IsUnfit, NoRecord}
+use Rattle.table_block.specs.Records.{Record, record_size, records_size, spelling, spelled, IsBlock}
 use Rattle.table_block.specs.Spots.{spot_of, spot_in, IsAt, IsSpot, IsWithin, Begins, Finds}
-use Rattle.table_block.proofs.Spelling.{length-spelling, length-spelled, spelled-append, behind_counts, one_reading}
+use Rattle.table_block.proofs.Reading.{HasRead, read_none, read_more, read_all, records_size-push, key_at}
+use Rattle.table_block.proofs.Spelling.{length-spelling, length-spelled, spelled-append, one_reading}
 
 -- the records before a place, and the first of them with the key
 pub record Walked (bytes key : List ℕ) (at : ℕ) (found : Option Spot) : Type 0 where
   pub before : List Record
-  pub rest : List ℕ
-  pub fit : All Fits before
-  pub parts : bytes ≡ spelled before ++ rest
-  pub at_is : at ≡ records_size before
+  pub read : HasRead bytes before at
   pub found_is : found ≡ spot_in 0 before key
 
 pub walked_none : (bytes key : List ℕ) → Walked bytes key 0 None
-walked_none bytes key = record { before = []; rest = bytes; fit = All-nil Fits; parts = refl; at_is = refl; found_is = refl }
+walked_none bytes key = record { before = []; read = read_none bytes; found_is = refl }
 
 -- what one more record makes of what was found
 abbrev pub next_found : Option Spot → Bool → Spot → Option Spot
@@ -45,62 +41,16 @@ spot_in-push at (b ∷ before) r key =
       | false ↦ more
     ]
 
--- what stands behind the counts of the record that begins at a place
-texts_at : (bytes : List ℕ) (at : ℕ) (spot : Spot) (begins : Begins bytes at spot)
-    → drop (at + 4) bytes ≡ begins.this.0 ++ (begins.this.1 ++ begins.rest)
-texts_at bytes at spot begins =
-    sym (drop-drop 4 at bytes) ∙ ap (drop 4) begins.parts ∙ behind_counts begins.this begins.rest
-
--- its key
-pub key_at : (bytes : List ℕ) (at : ℕ) (spot : Spot) (begins : Begins bytes at spot)
-    → slice_range bytes (spot.at + 4) spot.value ≡ begins.this.0
-key_at bytes at spot begins =
-    let r = begins.this in
-    let at_is : spot.at ≡ at = ap (λ (s : Spot). s.at) begins.spot_is in
-    let value_is : spot.value ≡ at + 4 + length r.0 = ap (λ (s : Spot). s.value) begins.spot_is in
-    let count : spot.value - (spot.at + 4) ≡ length r.0 = omega arith in
-    (λ i. take (count i) (drop (at_is i + 4) bytes)) ∙ ap (take (length r.0)) (texts_at bytes at spot begins)
-    ∙ take_at r.0 (r.1 ++ begins.rest) (length r.0) refl
-
--- its value
-pub value_at : (bytes : List ℕ) (at : ℕ) (spot : Spot) (begins : Begins bytes at spot)
-    → slice_range bytes spot.value spot.end ≡ begins.this.1
-value_at bytes at spot begins =
-    let r = begins.this in
-    let value_is : spot.value ≡ at + 4 + length r.0 = ap (λ (s : Spot). s.value) begins.spot_is in
-    let end_is : spot.end ≡ at + (4 + length r.0 + length r.1) = ap (λ (s : Spot). s.end) begins.spot_is in
-    let count : spot.end - spot.value ≡ length r.1 = omega arith in
-    (λ i. take (count i) (drop (value_is i) bytes))
-    ∙ ap (take (length r.1)) (sym (drop-drop (length r.0) (at + 4) bytes) ∙ ap (drop (length r.0)) (texts_at bytes at spot begins)
-    ∙ drop_at r.0 (r.1 ++ begins.rest) (length r.0) refl)
-    ∙ take_at r.1 begins.rest (length r.1) refl
-
-sizes : (before : List Record) (r : Record) → records_size before + record_size r ≡ records_size (before ++ r ∷ [])
-sizes [] r = omega arith
-sizes (b ∷ before) r = omega (arith, sizes before r)
-
 module _ (bytes key : List ℕ) (at : ℕ) (found : Option Spot) (walked : Walked bytes key at found) where
-  -- what stands from the place on
-  behind : drop at bytes ≡ walked.rest
-  behind =
-      ap (drop at) walked.parts
-      ∙ drop_at (spelled walked.before) walked.rest at (length-spelled walked.before ∙ sym walked.at_is)
-
   pub walked_more : (spot : Spot) (next : Option Spot) → Begins bytes at spot
       → next ≡ next_found found (bytes_eq (slice_range bytes (spot.at + 4) spot.value) key) spot → Walked bytes key spot.end next
   walked_more spot next begins next_is =
       let r = begins.this in
-      let at_is = walked.at_is in
-      let spot_is : spot ≡ spot_of (records_size walked.before) r = begins.spot_is ∙ ap (λ (n : ℕ). spot_of n r) at_is in
+      let spot_is : spot ≡ spot_of (records_size walked.before) r =
+      begins.spot_is ∙ ap (λ (n : ℕ). spot_of n r) walked.read.at_is in
       record {
         before = walked.before ++ r ∷ [];
-        rest = begins.rest;
-        fit = All-push Fits walked.before r walked.fit begins.fits;
-        parts =
-            walked.parts ∙ ap (λ (t : List ℕ). spelled walked.before ++ t) (sym behind ∙ begins.parts)
-            ∙ sym (append_assoc (spelled walked.before) (spelling r) begins.rest)
-            ∙ ap (λ (t : List ℕ). t ++ begins.rest) (ap (λ (t : List ℕ). spelled walked.before ++ t) (sym (append-nil (spelling r))) ∙ sym (spelled-append walked.before (r ∷ [])));
-        at_is = ap (λ (s : Spot). s.end) spot_is ∙ sizes walked.before r;
+        read = read_more bytes walked.before at walked.read spot begins;
         found_is =
             next_is
             ∙ (λ i. next_found (walked.found_is i) (bytes_eq (key_at bytes at spot begins i) key) (spot_is i))
@@ -138,25 +88,10 @@ module _ (bytes key : List ℕ) (at : ℕ) (found : Option Spot) (walked : Walke
 
   -- at the end it has gone over all of them
   pub walked_all : at ≡ length bytes → Finds bytes key found
-  walked_all end =
-      let none : length walked.rest ≡ 0 =
-      omega (arith, ap length walked.parts, length-append (spelled walked.before) walked.rest, length-spelled walked.before, walked.at_is) in
-      record {
-        records = walked.before;
-        block = record { fit = walked.fit; bytes_are = walked.parts ∙ ap (λ (t : List ℕ). spelled walked.before ++ t) (nil_from_length walked.rest none) ∙ append-nil (spelled walked.before) };
-        found_is = walked.found_is;
-      }
-
-  -- or it stops at a record that isn't whole
-  pub walked_unfit : (place : ℕ) → at < length bytes → place ≡ at → NoRecord (drop at bytes) → IsUnfit bytes place
-  walked_unfit place before place_is broken = record {
-    before = walked.before;
-    rest = drop at bytes;
-    fit = walked.fit;
-    parts = walked.parts ∙ ap (λ (t : List ℕ). spelled walked.before ++ t) (sym behind);
-    some = omega (arith, length-drop at bytes);
-    broken = broken;
-    place_is = place_is ∙ walked.at_is ∙ sym (length-spelled walked.before);
+  walked_all end = record {
+    records = walked.before;
+    block = read_all bytes walked.before at walked.read end;
+    found_is = walked.found_is;
   }
 
 -- what was found in one list of records was found in all, since there is one
@@ -179,7 +114,7 @@ found_spot bytes skipped (r ∷ records) key is =
     found_spot bytes (skipped ++ r ∷ []) records key (subst (λ (rs : List Record). IsBlock bytes rs) (sym (append_assoc skipped (r ∷ []) records)) is) in
     elim (bytes_eq r.0 key) as (λ t. IfSome (cond t (Some (spot_of (records_size skipped) r)) (spot_in (records_size skipped + record_size r) records key)) (IsSpot bytes)) [
       | true ↦ here
-      | false ↦ subst (λ (n : ℕ). IfSome (spot_in n records key) (IsSpot bytes)) (sym (sizes skipped r)) more
+      | false ↦ subst (λ (n : ℕ). IfSome (spot_in n records key) (IsSpot bytes)) (records_size-push skipped r) more
     ]
 
 pub found_place : (bytes key : List ℕ) (found : Option Spot) → Finds bytes key found → IfSome found (IsSpot bytes)

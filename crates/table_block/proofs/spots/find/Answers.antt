@@ -1,7 +1,8 @@
 use Rattle.std.proofs.Common.{◌≡◌, length, ap, sym, Ok, ◌∙◌, arith}
 use Rattle.std.proofs.lemmas.Result.{err_from_is_err_and}
 use Rattle.table_block.proofs.Spelling.{no_unfit}
-use Rattle.table_block.proofs.Finding.{walked_first, walked_past, walked_other, walked_all, walked_unfit, found_in, found_place, found_within}
+use Rattle.table_block.proofs.Reading.{read_unfit}
+use Rattle.table_block.proofs.Finding.{walked_first, walked_past, walked_other, walked_all, found_in, found_place, found_within}
 use Rattle.table_block.proofs.spots.find.Goals as goal
 use Rattle.table_block.proofs.spots.find.Goals.{else-is_none-via-then-is_none+else-has_key, else-is_none-via-else-is_none}
 
@@ -9,13 +10,13 @@ pub returns-in_err-spot-clause-unfit : goal.returns-in_err-spot-clause-unfit
 returns-in_err-spot-clause-unfit c =
     let p = err_from_is_err_and c.from_residual.result c.from_residual.ensures.1 in
     let read = c.in_err-spot.ensures.reads in
-    rw (p.1, p.2) (walked_unfit c.args.bytes.now c.args.key.now c.loop-spot.at c.loop-spot.found c.loop-spot.invariant.walked c.in_err-spot.field-0.0.place read.0 read.1 read.2)
+    rw (p.1, p.2) (read_unfit c.args.bytes.now c.loop-spot.invariant.walked.before c.loop-spot.at c.loop-spot.invariant.walked.read c.in_err-spot.field-0.0.place read.0 read.1 read.2)
 
 pub returns-in_err-spot-clause-reads : goal.returns-in_err-spot-clause-reads
 returns-in_err-spot-clause-reads c = λ records is.
     let read = c.in_err-spot.ensures.reads in
     absurd (no_unfit c.args.bytes.now records c.in_err-spot.field-0.0.place is
-    (walked_unfit c.args.bytes.now c.args.key.now c.loop-spot.at c.loop-spot.found c.loop-spot.invariant.walked c.in_err-spot.field-0.0.place read.0 read.1 read.2))
+    (read_unfit c.args.bytes.now c.loop-spot.invariant.walked.before c.loop-spot.at c.loop-spot.invariant.walked.read c.in_err-spot.field-0.0.place read.0 read.1 read.2))
 
 pub returns-in_default-clause-ok : goal.returns-in_default-clause-ok
 returns-in_default-clause-ok c =
