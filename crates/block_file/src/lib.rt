@@ -26,8 +26,6 @@ use std::alloc::Global;
 use std::marker::Model;
 
 mod blocks;
-#[cfg(test)]
-mod tests;
 
 /// A file: how many bytes it has, and the numbers of its blocks in a home.
 ///

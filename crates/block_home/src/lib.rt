@@ -8,8 +8,6 @@
 mod end;
 mod home;
 mod stored;
-#[cfg(test)]
-mod tests;
 
 pub use block_seats::{HomeMoves, PlacedBlock};
 pub use end::{HomeEnd, StoreFault, YieldEnd};

@@ -6,8 +6,6 @@
 
 mod image;
 mod read;
-#[cfg(test)]
-mod tests;
 
 pub use image::{HEAD, MOST_IN_BLOCK, stamp_of, write_image};
 pub use read::{View, read_image};

@@ -21,9 +21,6 @@ ghost use Rattle.block_list.specs.Ends.{IsPreparedEnd, NamesBlock, IsNeverDamage
 use block_home::{Home, HomeEnd, StoreFault};
 use shelf_link::Shelf;
 
-#[cfg(test)]
-mod tests;
-
 /// Ends these blocks, each once.
 pub fn cut_blocks<K: Shelf>(home: &mut Home<K>, blocks: &[u64])
     requires { AreThere home.old.seats blocks.now }

@@ -8,6 +8,3 @@ mod pool;
 
 pub use due::{Due, DueMove, plan_moves};
 pub use pool::Pool;
-
-#[cfg(test)]
-mod tests;

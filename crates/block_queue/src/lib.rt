@@ -36,8 +36,6 @@ use std::marker::Model;
 mod items;
 mod marks;
 mod moves;
-#[cfg(test)]
-mod tests;
 
 /// A queue: what it keeps of each of its blocks, and how many items it has.
 ///

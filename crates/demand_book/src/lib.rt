@@ -14,6 +14,3 @@ pub use book::{Book, JoinEnd, LeaveEnd, QUANTA, QuantaSpent, ReportEnd};
 pub use report::Report;
 pub use rows::Rows;
 pub use seats::{has_seat, row_seat, seat_fair};
-
-#[cfg(test)]
-mod tests;

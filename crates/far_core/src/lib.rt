@@ -5,6 +5,3 @@ mod service;
 mod slices;
 
 pub use service::{Core, CoreEvent, Ran};
-
-#[cfg(test)]
-mod tests;

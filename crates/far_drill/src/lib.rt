@@ -9,8 +9,6 @@ mod output;
 mod script;
 mod sink;
 mod source;
-#[cfg(test)]
-mod tests;
 
 pub use sink::{DrillSink, Summary};
 pub use source::DrillSource;

@@ -6,8 +6,6 @@
 //! where it is told. The formats are in `docs/FORMATS.md`, the promises in `docs/PROMISES.md`.
 #![tactic(auto)]
 
-#[cfg(test)]
-mod buffer_tests;
 mod decimal;
 mod escape;
 mod lines;
@@ -18,8 +16,6 @@ mod raw;
 mod real;
 mod sinks;
 mod sources;
-#[cfg(test)]
-mod tests;
 mod words;
 mod write_buf;
 

@@ -2,8 +2,6 @@
 #![tactic(auto)]
 
 mod help;
-#[cfg(test)]
-mod tests;
 mod words;
 
 ghost use Rattle.std.specs.Prelude.{◌≡◌, length, IfOk};

@@ -19,6 +19,3 @@ pub use part::Part;
 pub use path::Path;
 pub use request::{Kind, MOST_IN_FILE, MOST_IN_QUEUE, MOST_IN_REQUEST, Outcome, Reply, Request};
 pub use stamp::{Found, ImageFault, Stamp, Unfit};
-
-#[cfg(test)]
-mod tests;

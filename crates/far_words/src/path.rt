@@ -174,6 +174,3 @@ impl fmt::Debug for Path {
         write_text(self.bytes(), f)
     }
 }
-
-#[cfg(test)]
-mod tests;

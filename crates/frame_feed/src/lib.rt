@@ -5,6 +5,3 @@ mod feed;
 mod look;
 
 pub use feed::{Feed, FeedEnd, next_frame};
-
-#[cfg(test)]
-mod tests;

@@ -141,6 +141,3 @@ impl<T: PartialEq> PartialEq for ItemList<T> {
 impl<T: Eq> Eq for ItemList<T> {
     ghost laws = { lists_equiv T.Eq.laws };
 }
-
-#[cfg(test)]
-mod tests;

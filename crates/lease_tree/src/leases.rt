@@ -261,6 +261,3 @@ fn join(left: Leases, right: Leases, path: &Path) -> Leases
         Some((knot, rest)) => balance(knot, left, rest),
     }
 }
-
-#[cfg(test)]
-mod tests;

@@ -7,6 +7,3 @@ mod order;
 mod tree;
 
 pub use tree::{HasKind, Tree, TreeEnd};
-
-#[cfg(test)]
-mod tests;

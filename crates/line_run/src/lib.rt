@@ -3,8 +3,6 @@
 
 mod run;
 mod taker;
-#[cfg(test)]
-mod tests;
 
 pub use run::run_lines;
 pub use taker::LineTaker;

@@ -6,8 +6,6 @@ mod parse;
 mod read;
 mod seat_words;
 mod shares;
-#[cfg(test)]
-mod tests;
 mod write;
 
 pub use line_kind::LineKind;

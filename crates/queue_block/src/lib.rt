@@ -10,9 +10,6 @@ ghost use Rattle.queue_block.specs.Items.{head, Fits, item_bytes, BeginsAt, Read
 use far_words::{Blob, Unfit};
 use std::alloc::AllocError;
 
-#[cfg(test)]
-mod tests;
-
 /// How many bytes stand before an item: the count of its own.
 pub const HEAD: usize = 4;
 

@@ -13,6 +13,3 @@ mod requests;
 
 pub use decode::{FrameEnd, decode_reply, decode_request};
 pub use encode::{append_reply, append_request, encode_reply, encode_request};
-
-#[cfg(test)]
-mod tests;

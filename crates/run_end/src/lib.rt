@@ -5,8 +5,6 @@
 mod faults;
 mod last_lines;
 mod status;
-#[cfg(test)]
-mod tests;
 mod why;
 
 pub use faults::{DueLine, LineFault, ShapeLimit, WordsFault};

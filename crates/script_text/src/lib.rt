@@ -3,16 +3,12 @@
 
 mod damages;
 mod explain;
-#[cfg(test)]
-mod explain_tests;
 mod fields;
 mod line;
 mod moves;
 mod outcome;
 mod request;
 mod rows;
-#[cfg(test)]
-mod tests;
 mod verb;
 
 pub use explain::explain_line;

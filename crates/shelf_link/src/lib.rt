@@ -7,16 +7,12 @@
 mod calls;
 mod crossing;
 mod dir;
-#[cfg(test)]
-mod dir_tests;
 mod kept;
 mod mem;
 mod null;
 mod shelf;
 mod slot;
 mod sure;
-#[cfg(test)]
-mod tests;
 mod twist;
 
 pub use dir::ShelfDir;

@@ -9,8 +9,6 @@ mod moves;
 mod packing;
 mod plans;
 mod records;
-#[cfg(test)]
-mod tests;
 
 pub use acts::{Act, ripe};
 pub use moves::{move_plan, pack_plan};

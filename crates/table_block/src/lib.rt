@@ -7,8 +7,6 @@
 mod buf;
 mod slots;
 mod spots;
-#[cfg(test)]
-mod tests;
 
 pub use buf::{BlockBuf, insert, put_record, remove, replace};
 pub use slots::{SLOTS, hash_slot};

@@ -8,6 +8,8 @@ use crate::{
 use std::io::{self, ErrorKind, Read, Write};
 use std::test::Fail;
 
+mod buffer;
+
 // What came of reading `text` in pieces of at most `piece` bytes, where call `fault` fails: each line in brackets, `!`
 // for a fault, `#` for a line that is too long, `.` at the end.
 fn transcript(

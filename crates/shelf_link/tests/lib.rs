@@ -4,6 +4,8 @@ use crate::{Got, NullShelf, Shelf, ShelfMem, ShelfTwist, SureShelf};
 use far_io::{Failed, Raw};
 use std::test::Fail;
 
+mod dir;
+
 // The helpers have no contract, so that a test's proof carries none of the shelves'.
 
 fn mem(rt: &HostRuntime, fails: &[u64]) -> Result<ShelfMem, Fail> {

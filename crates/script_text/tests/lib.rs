@@ -8,6 +8,8 @@ use far_words::{
 };
 use std::test::Fail;
 
+mod explain;
+
 fn path(text: &[u8]) -> Result<Path, Fail> {
     Ok(Path::parse(text).ok_or("no path")?)
 }
