@@ -14,8 +14,8 @@ use far_words::{MOST_IN_FILE, Moves, Path, Reply};
 use shelf_link::Shelf;
 use std::alloc::Global;
 
-/// Puts bytes at the end of a file, and notes the rows of the blocks that came into slices. The slices are counted once,
-/// and the rows are reserved before anything is changed.
+/// Puts bytes at the end of a file, and notes the rows of the blocks that came into slices. The home is prepared
+/// once, and the rows are reserved before a block is changed.
 fn append_file<K: Shelf>(
     alloc: Global,
     file: &mut FileBody,

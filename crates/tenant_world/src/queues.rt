@@ -15,8 +15,8 @@ use far_words::{MOST_IN_QUEUE, Moves, Path, Reply};
 use shelf_link::Shelf;
 use std::alloc::Global;
 
-/// Puts an item at the end of a queue, and notes the row of the block that came into a slice. The slices are counted once,
-/// and the row is reserved before anything is changed.
+/// Puts an item at the end of a queue, and notes the row of the block that came into a slice. The slices are counted
+/// and the row is reserved before a block is changed; [`QueueBody::push`] counts and prepares a second time.
 fn push_queue<K: Shelf>(
     alloc: Global,
     queue: &mut QueueBody,
