@@ -20,7 +20,7 @@ pub trait Framed: Drop + Sized {
     ///
     /// It takes memory for blobs and rows alone, and only for what stands there: a blob is copied once all its bytes are
     /// known to be there, so it takes as many, and rows are added one by one as they are read. A list of rows takes more
-    /// than their bytes: it grows with room to spare, and a row takes a value's room, a part 40 bytes however short it
+    /// than their bytes: it may grow with room to spare, and a row takes a value's room, a part 40 bytes however short it
     /// is. What was read before a bad field is given back. No clause says any of this.
     fn read(alloc: Global, bytes: &[u8]) -> Result<(Self, &[u8]), ReadEnd>
         ensures { Reads (λ x. fields x.0) (λ x. x.1.now) layout bytes.now result };
