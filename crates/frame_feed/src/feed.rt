@@ -1,4 +1,4 @@
-//! The feed of a connection.
+//! The feed of a source of frames. No connection has one yet.
 
 ghost use Rattle.std.specs.Prelude.{◌≡◌, ℕ, ◌+◌, ◌<◌, ◌≤◌, ◌↔◌, IsTrue, List, [], ◌++◌, length, drop, take, Some, Err, IfOk, MatchResult};
 ghost use Rattle.far_io.specs.Faults.{HasCause, Follows, Rose};
