@@ -8,7 +8,7 @@ ghost use Rattle.std.specs.Prelude.{◌≡◌, ◌+◌, ◌-◌, ◌*◌, ◌^�
 ghost use Rattle.std.specs.Ordering.{nat_cmp};
 ghost use Rattle.std.specs.FinMap.{find};
 ghost use Rattle.far_io.specs.Faults.{Follows, HasCause};
-ghost use Rattle.far_words.specs.declared.request.TheConstants.{MOST_IN_FILE};
+ghost use Rattle.far_words.specs.declared.limits.TheConstants.{MOST_IN_FILE};
 ghost use Rattle.shelf_link.specs.Blocks as map;
 ghost use Rattle.shelf_link.specs.Told.{IsSameKind};
 ghost use Rattle.block_seats.specs.Seatings.{SeatingView, IsAlike};

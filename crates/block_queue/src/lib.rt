@@ -9,7 +9,7 @@
 ghost use Rattle.std.specs.Prelude.{◌≡◌, ◌≢◌, ◌↔◌, ◌+◌, ◌++◌, ◌<◌, ◌≤◌, [], List, ℕ, length, take, slice_get, vec_capacity, IsTrue, IsSome, IsNone, IsErr, IfSome, IfOk, IfErr, OnOk, OnErr, Ok, Err, None};
 ghost use Rattle.std.specs.Option.{unwrap_or};
 ghost use Rattle.far_io.specs.Faults.{Follows, HasCause};
-ghost use Rattle.far_words.specs.declared.request.TheConstants.{MOST_IN_QUEUE};
+ghost use Rattle.far_words.specs.declared.limits.TheConstants.{MOST_IN_QUEUE};
 ghost use Rattle.slice_seq.specs.Ascending.{ascending};
 ghost use Rattle.shelf_link.specs.Blocks as map;
 ghost use Rattle.shelf_link.specs.Told.{IsSameKind};

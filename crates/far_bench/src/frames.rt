@@ -5,8 +5,8 @@ ghost use Rattle.req_frames.specs.Requests.{request_fields};
 ghost use Rattle.req_frames.specs.Replies.{reply_fields};
 
 use crate::words::read_number;
+use far_asks::frames::{Reply, Request};
 use far_words::Blob;
-use far_words::frames::{Reply, Request};
 use frame_fields::is_frame;
 use req_frames::{decode_reply, decode_request, encode_reply, encode_request};
 use std::alloc::{AllocError, Global};

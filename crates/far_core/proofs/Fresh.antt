@@ -3,8 +3,8 @@ use Rattle.std.proofs.Common.{◌≡◌, ℕ, ◌+◌, ◌==◌, ◌<◌, ◌≤
 use Rattle.std.proofs.lemmas.Bool.{eqb-true, eqb-false, ltb-true, ltb-false}
 use Rattle.std.proofs.lemmas.List.{get_or-set_same, get_or-set_other, length-set, length-replicate, get_or-replicate, get_or_past, append-nil}
 use Rattle.karma_rule.specs.declared.shape.Shape.{Shape}
-use Rattle.far_words.specs.declared.request.Reply.TheVariants.{AbsentUser}
-use Rattle.far_words.specs.declared.request.Outcome.TheVariants.{Reply as Replied, Slice}
+use Rattle.far_asks.specs.declared.request.Reply.TheVariants.{AbsentUser}
+use Rattle.far_asks.specs.declared.request.Outcome.TheVariants.{Reply as Replied, Slice}
 use Rattle.far_history.specs.Entries.{Event, Ask, Grant, Entry}
 use Rattle.far_history.specs.Histories.{Terms, Past, past_of, first_past, named_for, count_in}
 use Rattle.far_history.specs.Legal.{IsMovedEntry}

@@ -12,10 +12,10 @@ use Rattle.karma_rule.specs.declared.shape.Shape.{Shape}
 use Rattle.slice_seq.specs.Slice.{SliceView}
 use Rattle.shelf_link.specs.Told.{Told, IsSameKind, tells, is_sure}
 use Rattle.far_words.specs.Moves.{MovesView, no_moves}
-use Rattle.far_words.specs.declared.request.Request.{Request}
-use Rattle.far_words.specs.declared.request.Reply.TheVariants.{StoreFault, AbsentUser}
-use Rattle.far_words.specs.declared.request.Outcome.{Outcome}
-use Rattle.far_words.specs.declared.request.Outcome.TheVariants.{Reply as Replied, Slice, HandEmpty, PoolEmpty}
+use Rattle.far_asks.specs.declared.request.Request.{Request}
+use Rattle.far_asks.specs.declared.request.Reply.TheVariants.{StoreFault, AbsentUser}
+use Rattle.far_asks.specs.declared.request.Outcome.{Outcome}
+use Rattle.far_asks.specs.declared.request.Outcome.TheVariants.{Reply as Replied, Slice, HandEmpty, PoolEmpty}
 use Rattle.far_history.specs.Entries.{Event, Ask, Grant, Entry}
 use Rattle.far_history.specs.Histories.{Terms, State, fits, is_new, past_of, first_past, InOrder}
 use Rattle.far_history.specs.Legal.{IsLegalHistory}

@@ -5,9 +5,9 @@ use Rattle.karma_rule.specs.declared.shape.Shape.{Shape}
 use Rattle.slice_seq.specs.Slice.{SliceView}
 use Rattle.shelf_link.specs.Told.{Told, IsSameKind, is_sure}
 use Rattle.far_words.specs.Moves.{MovesView}
-use Rattle.far_words.specs.declared.request.Outcome.{Outcome}
-use Rattle.far_words.specs.declared.request.Outcome.TheVariants.{Reply as Replied, Slice, PoolEmpty}
-use Rattle.far_words.specs.declared.request.Reply.TheVariants.{StoreFault}
+use Rattle.far_asks.specs.declared.request.Outcome.{Outcome}
+use Rattle.far_asks.specs.declared.request.Outcome.TheVariants.{Reply as Replied, Slice, PoolEmpty}
+use Rattle.far_asks.specs.declared.request.Reply.TheVariants.{StoreFault}
 use Rattle.far_history.specs.Entries.{Event, Grant, Entry}
 use Rattle.far_history.specs.Histories.{Terms, State, first_past, fits}
 use Rattle.far_history.specs.Legal.{IsLegalHistory}

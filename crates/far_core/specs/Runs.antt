@@ -2,9 +2,9 @@
 use Rattle.std.specs.Prelude.{◌≡◌, ℕ, ◌+◌, ◌*◌, ◌==◌, nat_lt, if◌then◌else◌, Bool, IsTrue, List, [], ◌∷◌, ◌++◌, map, drop, replicate, All, sum_by, slice_index_or, slice_set}
 use Rattle.std.specs.List.{range_with_len}
 use Rattle.karma_rule.specs.declared.shape.Shape.{Shape}
-use Rattle.far_words.specs.declared.request.Reply.TheVariants.{AbsentUser}
-use Rattle.far_words.specs.declared.request.Outcome.{Outcome}
-use Rattle.far_words.specs.declared.request.Outcome.TheVariants.{Reply as Replied, Slice, HandEmpty, PoolEmpty}
+use Rattle.far_asks.specs.declared.request.Reply.TheVariants.{AbsentUser}
+use Rattle.far_asks.specs.declared.request.Outcome.{Outcome}
+use Rattle.far_asks.specs.declared.request.Outcome.TheVariants.{Reply as Replied, Slice, HandEmpty, PoolEmpty}
 use Rattle.far_words.specs.declared.moves.PlacedRow.{PlacedRow}
 use Rattle.slice_seq.specs.Purses.{Purse}
 use Rattle.far_history.specs.Entries.{Event, Ask, Grant, Entry}

@@ -7,7 +7,8 @@ ghost use Rattle.far_words.specs.Moves.{AreInOrder, no_moves};
 ghost use Rattle.far_history.specs.Entries.{Ask};
 
 use crate::slices::Slices;
-use far_words::{Moves, Outcome, Reply, Request};
+use far_asks::{Outcome, Reply, Request};
+use far_words::Moves;
 use karma_rule::Shape;
 use shelf_link::Shelf;
 use std::alloc::{AllocError, Global};

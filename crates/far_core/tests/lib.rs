@@ -2,7 +2,8 @@
 ghost use Rattle.std.specs.Prelude.{◌≡◌, length, IfOk};
 
 use crate::{Core, CoreEvent};
-use far_words::{Blob, Kind, Outcome, Path, PlacedRow, Reply, Request};
+use far_asks::{Kind, Outcome, Reply, Request};
+use far_words::{Blob, Path, PlacedRow};
 use karma_rule::Shape;
 use shelf_link::ShelfMem;
 use std::process::Abort;

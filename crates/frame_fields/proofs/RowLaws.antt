@@ -1,7 +1,7 @@
 -- Rows behind their count.
 use Rattle.std.proofs.Common.{◌≡◌, ℕ, zero, suc, ◌+◌, ◌<◌, ◌≤◌, List, [], ◌∷◌, ◌++◌, length, refl, sym, ap, subst, ◌∙◌, append_assoc, append-nil, arith, inl, inr}
 use Rattle.std.proofs.lemmas.List.{length-append}
-use Rattle.far_words.specs.declared.frames.Place.{Place}
+use Rattle.far_words.specs.declared.place.Place.{Place}
 use Rattle.frame_fields.specs.declared.ends.ReadEnd.{ReadEnd}
 use Rattle.frame_fields.specs.declared.ends.ReadEnd.TheVariants.{Bad, NoMemory}
 use Rattle.frame_fields.specs.Fields.{Field, Word, Long, Text, spelling, spelled}

@@ -2,9 +2,9 @@
 use Rattle.std.specs.Prelude.{ℕ, nat_lt, Bool, true, List, [], ◌∷◌, ◌++◌, Some, None}
 use Rattle.std.specs.declared.option.Option.{Option}
 use Rattle.far_words.specs.Paths.{is_path, is_part}
-use Rattle.far_words.specs.declared.frames.Kind.{Kind}
-use Rattle.far_words.specs.declared.frames.Kind.TheVariants.{Dir, File, Queue, Table}
-use Rattle.far_words.specs.declared.frames.Place.{Place}
+use Rattle.far_words.specs.declared.kind.Kind.{Kind}
+use Rattle.far_words.specs.declared.kind.Kind.TheVariants.{Dir, File, Queue, Table}
+use Rattle.far_words.specs.declared.place.Place.{Place}
 use Rattle.frame_fields.specs.Fields.{Field, Byte, Word, Long, Text, AByte, AWord, ALong, ADigest, AText, AnAfter}
 use Rattle.frame_fields.specs.Layouts.{Layout, Stop, Then, times, tagged}
 

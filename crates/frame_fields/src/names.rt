@@ -12,8 +12,7 @@ use crate::ends::ReadEnd;
 use crate::framed::Framed;
 use crate::numbers::{byte_at, put_byte};
 use crate::texts::{put_text, text_at};
-use far_words::frames::Kind;
-use far_words::{Blob, Part, Path};
+use far_words::{Blob, Kind, Part, Path};
 use std::alloc::{AllocError, Global};
 
 /// A path behind the count of its bytes, and the bytes after it.

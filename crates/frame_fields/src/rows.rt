@@ -12,8 +12,7 @@ use crate::ends::ReadEnd;
 use crate::framed::Framed;
 use crate::names::put_part;
 use crate::numbers::{put_long, put_word};
-use far_words::frames::Place;
-use far_words::{Blob, Part};
+use far_words::{Blob, Part, Place};
 use item_list::ItemList;
 use std::alloc::{AllocError, Global};
 

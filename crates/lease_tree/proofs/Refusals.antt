@@ -6,8 +6,8 @@ use Rattle.std.specs.Map.{lookup}
 use Rattle.std.specs.BTreeMap.{is_at}
 use Rattle.std.specs.FinMap.{find}
 use Rattle.far_words.specs.Paths.{bytes_cmp, parent_of}
-use Rattle.far_words.specs.declared.frames.Kind.{Kind}
-use Rattle.far_words.specs.declared.frames.Kind.TheVariants.{Dir, File, Queue, Table}
+use Rattle.far_words.specs.declared.kind.Kind.{Kind}
+use Rattle.far_words.specs.declared.kind.Kind.TheVariants.{Dir, File, Queue, Table}
 use Rattle.lease_tree.specs.Leases.{Ends}
 use Rattle.lease_tree.specs.Names.{Names, Leased}
 use Rattle.lease_tree.specs.Trees.{is_dir, refused_under, refused_new}

@@ -6,8 +6,8 @@ use Rattle.std.specs.List as list
 use Rattle.std.specs.List.{filter, filter_map, starts_with}
 use Rattle.std.specs.FinMap.{find}
 use Rattle.far_words.specs.Paths.{bytes_cmp, is_part, parent_of}
-use Rattle.far_words.specs.declared.frames.Kind.{Kind}
-use Rattle.far_words.specs.declared.frames.Kind.TheVariants.{Dir, File, Queue, Table}
+use Rattle.far_words.specs.declared.kind.Kind.{Kind}
+use Rattle.far_words.specs.declared.kind.Kind.TheVariants.{Dir, File, Queue, Table}
 use Rattle.lease_tree.specs.Under.{is_same, is_under, is_along, is_after, is_past, stem}
 use Rattle.lease_tree.specs.Leases.{changed_where, find_last}
 use Rattle.lease_tree.specs.Names.{Names, Leased}

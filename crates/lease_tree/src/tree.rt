@@ -4,7 +4,7 @@ ghost use Rattle.std.specs.Borrow.{sem};
 ghost use Rattle.std.specs.Option.{option_map, option_copied, option_copied_mut, unwrap_or};
 ghost use Rattle.std.specs.FinMap.{find, put};
 ghost use Rattle.far_words.specs.Paths.{bytes_cmp};
-ghost use Rattle.far_words.specs.declared.frames.Kind.{Kind};
+ghost use Rattle.far_words.specs.declared.kind.Kind.{Kind};
 ghost use Rattle.lease_tree.specs.Under.{is_same};
 ghost use Rattle.lease_tree.specs.Leases.{changed_where};
 ghost use Rattle.lease_tree.specs.Lending.{lends_body};
@@ -12,8 +12,7 @@ ghost use Rattle.lease_tree.specs.Trees.{made, settled, refused_dir, refused_und
 
 use crate::lease::{Change, Lease};
 use crate::leases::{Leases, single};
-use far_words::Path;
-use far_words::frames::Kind;
+use far_words::{Kind, Path};
 use std::alloc::Global;
 use std::collections::BTreeMap;
 use std::marker::Model;

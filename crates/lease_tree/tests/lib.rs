@@ -1,6 +1,5 @@
 use super::*;
-use far_words::Path;
-use far_words::frames::{Kind, Names};
+use far_words::{Kind, Names, Path};
 use std::alloc::Global;
 use std::process::Abort;
 use std::test::Fail;

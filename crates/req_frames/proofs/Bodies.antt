@@ -1,8 +1,8 @@
 -- What was read behind a kind, with the kind.
 use Rattle.std.proofs.Common.{◌≡◌, ℕ, true, List, ◌++◌, refl, subst}
 use Rattle.std.specs.declared.result.Result.{Result}
-use Rattle.far_words.specs.declared.frames.Request.{Request}
-use Rattle.far_words.specs.declared.frames.Reply.{Reply}
+use Rattle.far_asks.specs.declared.frames.Request.{Request}
+use Rattle.far_asks.specs.declared.frames.Reply.{Reply}
 use Rattle.frame_fields.specs.declared.ends.ReadEnd.{ReadEnd}
 use Rattle.frame_fields.specs.Fields.{Byte, spelling}
 use Rattle.frame_fields.specs.Layouts.{is_in, row_of, tagged}

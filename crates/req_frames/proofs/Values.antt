@@ -3,13 +3,13 @@ use Rattle.std.proofs.Common.{◌≡◌, ℕ, ◌-◌, eqb, cond, drop, Option, 
 use Rattle.frame_fields.specs.Fields.{Field, Byte, Word, Long, Digest, Text, After}
 use Rattle.frame_fields.specs.Parts.{kind_byte, optional_fields, part_fields, place_fields, fields_of_rows}
 use Rattle.frame_fields.specs.Stamps.{fault_fields, found_fields}
-use Rattle.far_words.specs.declared.frames.Kind.{Kind}
-use Rattle.far_words.specs.declared.frames.Kind.TheVariants.{Dir, File, Queue, Table}
-use Rattle.far_words.specs.declared.frames.Place.{Place}
-use Rattle.far_words.specs.declared.frames.Request.{Request}
-use Rattle.far_words.specs.declared.frames.Request.TheVariants as asked
-use Rattle.far_words.specs.declared.frames.Reply.{Reply}
-use Rattle.far_words.specs.declared.frames.Reply.TheVariants as told
+use Rattle.far_words.specs.declared.kind.Kind.{Kind}
+use Rattle.far_words.specs.declared.kind.Kind.TheVariants.{Dir, File, Queue, Table}
+use Rattle.far_words.specs.declared.place.Place.{Place}
+use Rattle.far_asks.specs.declared.frames.Request.{Request}
+use Rattle.far_asks.specs.declared.frames.Request.TheVariants as asked
+use Rattle.far_asks.specs.declared.frames.Reply.{Reply}
+use Rattle.far_asks.specs.declared.frames.Reply.TheVariants as told
 use Rattle.far_words.specs.declared.stamp.Stamp.{Stamp}
 use Rattle.far_words.specs.declared.stamp.ImageFault.{ImageFault}
 use Rattle.far_words.specs.declared.stamp.ImageFault.TheVariants as faults

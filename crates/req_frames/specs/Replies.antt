@@ -1,8 +1,8 @@
 -- The table of replies.
 use Rattle.std.specs.Prelude.{ℕ, List, [], ◌∷◌, ◌++◌, length}
 use Rattle.std.specs.declared.result.Result.{Result}
-use Rattle.far_words.specs.declared.frames.Reply.{Reply}
-use Rattle.far_words.specs.declared.frames.Reply.TheVariants.{Done, Number, Bytes, Item, Nothing, Names, Places, Share, TooLong, Absent, WrongKind, Exists, Exhausted, StoreFault, Damaged, Stale, AbsentUser, TooMuch, NoMemory, Full}
+use Rattle.far_asks.specs.declared.frames.Reply.{Reply}
+use Rattle.far_asks.specs.declared.frames.Reply.TheVariants.{Done, Number, Bytes, Item, Nothing, Names, Places, Share, TooLong, Absent, WrongKind, Exists, Exhausted, StoreFault, Damaged, Stale, AbsentUser, TooMuch, NoMemory, Full}
 use Rattle.frame_fields.specs.declared.ends.ReadEnd.{ReadEnd}
 use Rattle.frame_fields.specs.Fields.{Field, Byte, Word, Long, Text}
 use Rattle.frame_fields.specs.Layouts.{Layout, Stop, both, Table}

@@ -1,9 +1,9 @@
 -- The table of requests.
 use Rattle.std.specs.Prelude.{ℕ, List, [], ◌∷◌}
 use Rattle.std.specs.declared.result.Result.{Result}
-use Rattle.far_words.specs.declared.frames.Request.{Request}
-use Rattle.far_words.specs.declared.frames.Request.TheVariants.{Hello, Make, DropTree, Top, Renew, Lease, Append, Read, Length, Push, Pop, Front, Count, Put, Get, Remove, Park, Load, Map, ReadSlice, GetSlice, PutSlice, Report, Share, Bye}
-use Rattle.far_words.specs.declared.frames.Request.TheVariants as asked
+use Rattle.far_asks.specs.declared.frames.Request.{Request}
+use Rattle.far_asks.specs.declared.frames.Request.TheVariants.{Hello, Make, DropTree, Top, Renew, Lease, Append, Read, Length, Push, Pop, Front, Count, Put, Get, Remove, Park, Load, Map, ReadSlice, GetSlice, PutSlice, Report, Share, Bye}
+use Rattle.far_asks.specs.declared.frames.Request.TheVariants as asked
 use Rattle.frame_fields.specs.declared.ends.ReadEnd.{ReadEnd}
 use Rattle.frame_fields.specs.Fields.{Field, Byte, Word, Long, Text, After}
 use Rattle.frame_fields.specs.Layouts.{Layout, Stop, Table}

@@ -1,8 +1,8 @@
 //! Whole frames, read.
 
 ghost use Rattle.std.specs.Prelude.{◌≡◌, ◌^◌, ◌<◌, ◌≤◌, ℕ, length};
-ghost use Rattle.far_words.specs.declared.frames.Request.{Request as Asked};
-ghost use Rattle.far_words.specs.declared.frames.Reply.{Reply as Told};
+ghost use Rattle.far_asks.specs.declared.frames.Request.{Request as Asked};
+ghost use Rattle.far_asks.specs.declared.frames.Reply.{Reply as Told};
 ghost use Rattle.frame_fields.specs.Reads.{Blames};
 ghost use Rattle.frame_fields.specs.Frames.{IsFrame};
 ghost use Rattle.req_frames.specs.Requests.{request_frame, IsRequest, IsBadRequest};
@@ -11,7 +11,7 @@ ghost use Rattle.req_frames.specs.Answers.{IsDecoded, IsOneOf, IsBadAt, IsEndOf}
 
 use crate::replies::read_reply;
 use crate::requests::read_request;
-use far_words::frames::{Reply, Request};
+use far_asks::frames::{Reply, Request};
 use frame_fields::ReadEnd;
 use std::alloc::Global;
 use std::error::Error;

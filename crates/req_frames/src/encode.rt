@@ -9,8 +9,8 @@ ghost use Rattle.req_frames.specs.Replies.{reply_frame, reply_fields, IsReply};
 
 use crate::put_replies::{self, put_reply};
 use crate::put_requests::{self, put_request};
+use far_asks::frames::{Reply, Request};
 use far_words::Blob;
-use far_words::frames::{Reply, Request};
 use frame_fields::put_word;
 use std::alloc::AllocError;
 

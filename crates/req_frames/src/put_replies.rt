@@ -9,7 +9,7 @@ ghost use Rattle.frame_fields.specs.Stamps.{stamp_fields, found_fields};
 ghost use Rattle.frame_fields.specs.Frames.{AreShort, Extends, IsPut};
 ghost use Rattle.req_frames.specs.Replies.{reply_fields, replies};
 
-use far_words::frames::{Names, Places, Reply};
+use far_asks::frames::{Names, Places, Reply};
 use far_words::{Blob, Found, Stamp};
 use frame_fields::{
     put_byte, put_counted, put_found, put_long, put_optional, put_stamp, put_text, put_word,

@@ -7,7 +7,7 @@ ghost use Rattle.frame_fields.specs.Parts.{a_byte, a_word, a_long, a_blob, a_pat
 ghost use Rattle.frame_fields.specs.Frames.{AreShort, Extends, IsPut};
 ghost use Rattle.req_frames.specs.Requests.{request_fields, requests};
 
-use far_words::frames::{Kind, Request};
+use far_asks::frames::{Kind, Request};
 use far_words::{Blob, Part, Path};
 use frame_fields::{put_after, put_byte, put_kind, put_long, put_path, put_text, put_word};
 use std::alloc::AllocError;

@@ -7,7 +7,7 @@ ghost use Rattle.frame_fields.specs.Stamps.{stamp, found};
 ghost use Rattle.frame_fields.specs.Reads.{ReadsAll};
 ghost use Rattle.req_frames.specs.Replies.{ReadsReply, replies, reply_kind, reply_fields, fields_after};
 
-use far_words::frames::{Place, Reply};
+use far_asks::frames::{Place, Reply};
 use far_words::{Blob, Found, Part, Stamp};
 use frame_fields::{ReadEnd, Rows, byte_at, read_all};
 use std::alloc::Global;

@@ -5,7 +5,7 @@ ghost use Rattle.frame_fields.specs.Parts.{a_word, a_long, a_blob, a_path, an_af
 ghost use Rattle.frame_fields.specs.Reads.{ReadsAll};
 ghost use Rattle.req_frames.specs.Requests.{ReadsRequest, requests, request_fields};
 
-use far_words::frames::{Kind, Request};
+use far_asks::frames::{Kind, Request};
 use far_words::{Blob, Part, Path};
 use frame_fields::{ReadEnd, byte_at, read_all};
 use std::alloc::Global;

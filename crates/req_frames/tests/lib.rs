@@ -4,7 +4,7 @@ use crate::{
     FrameEnd, append_reply, append_request, decode_reply, decode_request, encode_reply,
     encode_request,
 };
-use far_words::frames::Request;
+use far_asks::frames::Request;
 use far_words::{Blob, Path};
 use frame_fields::is_frame;
 use std::test::Fail;

@@ -2,7 +2,7 @@
 use Rattle.std.proofs.Common.{◌≡◌, ◌≢◌, ℕ, true, false, eqb, List, [], ◌∷◌, refl, sym, ◌∙◌, ap}
 use Rattle.std.specs.Cmp.Lexicographic.{pointwise}
 use Rattle.std.proofs.lemmas.Bool.{false≢true, and_from, eq-eqb}
-use Rattle.far_words.specs.declared.request.Request.TheVariants.{Make, Append, Read, Length, Push, Pop, Front, Count, Park, Load}
+use Rattle.far_asks.specs.declared.request.Request.TheVariants.{Make, Append, Read, Length, Push, Pop, Front, Count, Park, Load}
 use Rattle.script_text.specs.declared.verb.Verb.{Verb}
 use Rattle.script_text.specs.declared.verb.Verb.TheVariants.{Make as Makes, Append as Appends, Read as Reads, Length as Measures, Push as Pushes, Pop as Pops, Front as Looks, Count as Counts, Park as Parks, Load as Loads}
 use Rattle.script_text.specs.Verbs.{verb_word}

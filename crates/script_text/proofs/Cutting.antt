@@ -4,7 +4,7 @@ use Rattle.std.specs.Prelude.{All}
 use Rattle.std.specs.List.{flat_map}
 use Rattle.std.proofs.lemmas.Bool.{false≢true}
 use Rattle.far_words.specs.Moves.{MovesView}
-use Rattle.far_words.specs.declared.request.Outcome.{Outcome}
+use Rattle.far_asks.specs.declared.request.Outcome.{Outcome}
 use Rattle.far_words.specs.declared.moves.PlacedRow.{PlacedRow}
 use Rattle.script_text.specs.Words.{joined, ended, HasNoEnd}
 use Rattle.script_text.specs.Outcomes.{outcome_words, outcome_text, OutcomeFits, is_mark, HasNoMark, IsOutcomeLine}

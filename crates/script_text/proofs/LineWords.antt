@@ -9,10 +9,10 @@ use Rattle.std.proofs.lemmas.Bool.{cond-false}
 use Rattle.far_io.specs.Words.{words_of, HasNoSpace}
 use Rattle.far_io.proofs.Escapes.{escaped_one_word}
 use Rattle.far_io.proofs.WordLaws.{HaveNoSpace, words_of-joined, joined-words_of, decimal_one_word, no_space_by_test}
-use Rattle.far_words.specs.declared.request.Kind.{Kind}
-use Rattle.far_words.specs.declared.request.Kind.TheVariants.{File, Queue}
-use Rattle.far_words.specs.declared.request.Request.{Request}
-use Rattle.far_words.specs.declared.request.Request.TheVariants.{Make, Append, Read, Length, Push, Pop, Front, Count, Park, Load}
+use Rattle.far_asks.specs.declared.request.Kind.{Kind}
+use Rattle.far_asks.specs.declared.request.Kind.TheVariants.{File, Queue}
+use Rattle.far_asks.specs.declared.request.Request.{Request}
+use Rattle.far_asks.specs.declared.request.Request.TheVariants.{Make, Append, Read, Length, Push, Pop, Front, Count, Park, Load}
 use Rattle.script_text.specs.declared.line.ScriptLine.{ScriptLine}
 use Rattle.script_text.specs.declared.line.ScriptLine.TheVariants.{Ask, Draw, Grant}
 use Rattle.script_text.specs.Words.{joined}

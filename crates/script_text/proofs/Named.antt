@@ -8,9 +8,9 @@ use Rattle.std.proofs.lemmas.Fmt.{decimal_injective}
 use Rattle.far_io.specs.Escapes.{escaped}
 use Rattle.far_io.specs.Words.{words_of}
 use Rattle.far_io.proofs.WordLaws.{words_of-joined}
-use Rattle.far_words.specs.declared.request.Reply.TheVariants.{Done, Number, Bytes, Item, Nothing, TooLong, Absent, WrongKind, Exists, Full, Exhausted, StoreFault, Damaged, AbsentUser, NoMemory}
-use Rattle.far_words.specs.declared.request.Outcome.{Outcome}
-use Rattle.far_words.specs.declared.request.Outcome.TheVariants.{Reply as Replied, Slice, Granted, HandEmpty, PoolEmpty}
+use Rattle.far_asks.specs.declared.request.Reply.TheVariants.{Done, Number, Bytes, Item, Nothing, TooLong, Absent, WrongKind, Exists, Full, Exhausted, StoreFault, Damaged, AbsentUser, NoMemory}
+use Rattle.far_asks.specs.declared.request.Outcome.{Outcome}
+use Rattle.far_asks.specs.declared.request.Outcome.TheVariants.{Reply as Replied, Slice, Granted, HandEmpty, PoolEmpty}
 use Rattle.far_words.specs.declared.moves.PlacedRow.{PlacedRow}
 use Rattle.script_text.specs.Words.{joined}
 use Rattle.script_text.specs.Damages.{stamp_text, found_text}

@@ -1,6 +1,6 @@
 -- The words of a request's line, apart from its user.
 use Rattle.std.specs.Prelude.{◌≡◌, ℕ, List}
-use Rattle.far_words.specs.declared.request.Request.{Request}
+use Rattle.far_asks.specs.declared.request.Request.{Request}
 use Rattle.script_text.specs.Lines.{request_word, field_words, IsRequest}
 
 -- the line of this request begins with this word, and has these after that of the user

@@ -6,10 +6,10 @@ use Rattle.std.specs.declared.option.Option.{Option}
 use Rattle.std.specs.declared.result.Result.{Result}
 use Rattle.far_io.specs.Escapes.{escaped, AreBytes}
 use Rattle.far_words.specs.Paths.{is_path}
-use Rattle.far_words.specs.declared.request.Kind.{Kind}
-use Rattle.far_words.specs.declared.request.Kind.TheVariants.{File, Queue}
-use Rattle.far_words.specs.declared.request.Request.{Request}
-use Rattle.far_words.specs.declared.request.Request.TheVariants.{Make, Append, Read, Length, Push, Pop, Front, Count, Park, Load}
+use Rattle.far_asks.specs.declared.request.Kind.{Kind}
+use Rattle.far_asks.specs.declared.request.Kind.TheVariants.{File, Queue}
+use Rattle.far_asks.specs.declared.request.Request.{Request}
+use Rattle.far_asks.specs.declared.request.Request.TheVariants.{Make, Append, Read, Length, Push, Pop, Front, Count, Park, Load}
 use Rattle.script_text.specs.declared.line.ScriptLine.{ScriptLine}
 use Rattle.script_text.specs.declared.line.ScriptLine.TheVariants.{Ask, Draw, Grant}
 use Rattle.script_text.specs.Words.{joined}

@@ -2,10 +2,10 @@
 use Rattle.std.specs.Prelude.{◌≡◌, ℕ, ◌^◌, ◌<◌, ◌==◌, ◌||◌, Bool, false, List, [], ◌∷◌, ◌++◌, codes}
 use Rattle.std.specs.Fmt.{decimal}
 use Rattle.far_io.specs.Escapes.{escaped}
-use Rattle.far_words.specs.declared.request.Reply.{Reply}
-use Rattle.far_words.specs.declared.request.Reply.TheVariants.{Done, Number, Bytes, Item, Nothing, TooLong, Absent, WrongKind, Exists, Full, Exhausted, StoreFault, Damaged, AbsentUser, NoMemory}
-use Rattle.far_words.specs.declared.request.Outcome.{Outcome}
-use Rattle.far_words.specs.declared.request.Outcome.TheVariants.{Reply as Replied, Slice, Granted, HandEmpty, PoolEmpty}
+use Rattle.far_asks.specs.declared.request.Reply.{Reply}
+use Rattle.far_asks.specs.declared.request.Reply.TheVariants.{Done, Number, Bytes, Item, Nothing, TooLong, Absent, WrongKind, Exists, Full, Exhausted, StoreFault, Damaged, AbsentUser, NoMemory}
+use Rattle.far_asks.specs.declared.request.Outcome.{Outcome}
+use Rattle.far_asks.specs.declared.request.Outcome.TheVariants.{Reply as Replied, Slice, Granted, HandEmpty, PoolEmpty}
 use Rattle.script_text.specs.Words.{ended, HasNoEnd}
 use Rattle.script_text.specs.Damages.{damage_words, StampFits, FoundFits}
 

@@ -1,7 +1,7 @@
 -- What is written of events: of each its outcome's line, and then the lines of its moves.
 use Rattle.std.specs.Prelude.{ℕ, List, ◌++◌}
 use Rattle.far_words.specs.Moves.{MovesView}
-use Rattle.far_words.specs.declared.request.Outcome.{Outcome}
+use Rattle.far_asks.specs.declared.request.Outcome.{Outcome}
 use Rattle.far_words.specs.declared.moves.PlacedRow.{PlacedRow}
 use Rattle.script_text.specs.Outcomes.{outcome_text, OutcomeFits}
 use Rattle.script_text.specs.Moves.{moves_text, MovesFit}

@@ -8,8 +8,9 @@ ghost use Rattle.far_words.specs.Paths;
 ghost use Rattle.script_text.specs.Lines.{kind_word};
 
 use crate::verb::is_word;
+use far_asks::Kind;
 use far_io::{next_number, parse_escaped, split_word};
-use far_words::{Blob, Kind, Path};
+use far_words::{Blob, Path};
 use std::alloc::{AllocError, Global};
 
 /// The path that the first of these words is, and the words after it.

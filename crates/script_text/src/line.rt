@@ -8,8 +8,8 @@ ghost use Rattle.script_text.specs.Lines.{line_text, IsScriptLine, IsLineOf, IsN
 use crate::fields::last_number;
 use crate::request::parse_request;
 use crate::verb::is_word;
+use far_asks::Request;
 use far_io::{next_number, split_word};
-use far_words::Request;
 use std::alloc::{AllocError, Global};
 
 /// What one line of a script asks for.

@@ -12,8 +12,9 @@ ghost use Rattle.script_text.specs.Outcomes.{reply_words, outcome_text, OutcomeF
 
 use crate::damages::{DAMAGE_ROOM, push_damage};
 use crate::rows::{NUMBER_ROOM, push_line};
+use far_asks::{Outcome, Reply};
 use far_io::{Piece, Sink, WriteFault, flush, make_room, push_escaped};
-use far_words::{Found, Outcome, Reply, Stamp};
+use far_words::{Found, Stamp};
 
 /// Puts a line of a word and numbers.
 fn put_line<O: Sink>(

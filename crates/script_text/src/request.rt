@@ -7,8 +7,8 @@ ghost use Rattle.script_text.specs.Fields.{IsAsked, IsNotAsked};
 
 use crate::fields::{last_number, last_path, next_kind, next_path, path_and_bytes};
 use crate::verb::Verb;
+use far_asks::Request;
 use far_io::next_number;
-use far_words::Request;
 use std::alloc::{AllocError, Global};
 
 /// `PATH KIND SPAN`

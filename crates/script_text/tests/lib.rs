@@ -3,9 +3,8 @@ ghost use Rattle.std.specs.Prelude.{◌≡◌, IfOk};
 
 use crate::{ScriptLine, parse_line, write_moves, write_outcome};
 use far_io::{MemSink, WriteFault};
-use far_words::{
-    Blob, Found, ImageFault, Kind, Moves, Outcome, Path, PlacedRow, Reply, Request, Stamp,
-};
+use far_asks::{Kind, Outcome, Reply, Request};
+use far_words::{Blob, Found, ImageFault, Moves, Path, PlacedRow, Stamp};
 use std::test::Fail;
 
 mod explain;

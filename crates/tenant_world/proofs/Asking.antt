@@ -8,10 +8,10 @@ use Rattle.far_io.specs.Faults.{Faults}
 use Rattle.shelf_link.specs.Told.{Told}
 use Rattle.shelf_link.specs.Blocks as map
 use Rattle.far_words.specs.Paths.{bytes_cmp, parent_of}
-use Rattle.far_words.specs.declared.request.Kind.{Kind}
-use Rattle.far_words.specs.declared.request.Request.TheVariants.{Make, Append, Read, Length, Count, Park, Load}
-use Rattle.far_words.specs.declared.request.Reply.TheVariants.{Done, Number, TooLong, Absent, WrongKind, Exists, NoMemory}
-use Rattle.far_words.specs.declared.request.TheConstants.{MOST_IN_REQUEST}
+use Rattle.far_asks.specs.declared.request.Kind.{Kind}
+use Rattle.far_asks.specs.declared.request.Request.TheVariants.{Make, Append, Read, Length, Count, Park, Load}
+use Rattle.far_asks.specs.declared.request.Reply.TheVariants.{Done, Number, TooLong, Absent, WrongKind, Exists, NoMemory}
+use Rattle.far_asks.specs.declared.request.TheConstants.{MOST_IN_REQUEST}
 use Rattle.slice_seq.specs.Purses.{Purse}
 use Rattle.far_history.specs.Worlds.{Body, DirBody, FileBody, QueueBody, TableBody, Node, with_node, lease_from}
 use Rattle.std.proofs.lemmas.Bool.{le-ltb}

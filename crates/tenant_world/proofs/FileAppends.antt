@@ -9,10 +9,11 @@ use Rattle.std.proofs.lemmas.List.{length-append, length-map}
 use Rattle.far_io.specs.Faults.{Faults}
 use Rattle.shelf_link.specs.Told.{Told}
 use Rattle.far_words.specs.Paths.{bytes_cmp}
-use Rattle.far_words.specs.declared.request.Request.TheVariants.{Append}
-use Rattle.far_words.specs.declared.request.Reply.{Reply}
-use Rattle.far_words.specs.declared.request.Reply.TheVariants.{Done, Number, Bytes, Item, Nothing, TooLong, Absent, WrongKind, Exists, Full, Exhausted, StoreFault, Damaged, AbsentUser, NoMemory}
-use Rattle.far_words.specs.declared.request.TheConstants.{MOST_IN_REQUEST, MOST_IN_FILE}
+use Rattle.far_asks.specs.declared.request.Request.TheVariants.{Append}
+use Rattle.far_asks.specs.declared.request.Reply.{Reply}
+use Rattle.far_asks.specs.declared.request.Reply.TheVariants.{Done, Number, Bytes, Item, Nothing, TooLong, Absent, WrongKind, Exists, Full, Exhausted, StoreFault, Damaged, AbsentUser, NoMemory}
+use Rattle.far_words.specs.declared.limits.TheConstants.{MOST_IN_FILE}
+use Rattle.far_asks.specs.declared.request.TheConstants.{MOST_IN_REQUEST}
 use Rattle.slice_seq.specs.Purses.{Purse, has_block, open_slices}
 use Rattle.slice_seq.specs.Needs.{append_need}
 use Rattle.far_history.specs.Worlds.{Node, FileBody, with_node}

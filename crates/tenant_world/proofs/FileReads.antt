@@ -5,10 +5,10 @@ use Rattle.std.specs.BTreeMap.{is_at}
 use Rattle.far_io.specs.Faults.{Faults}
 use Rattle.shelf_link.specs.Told.{Told}
 use Rattle.far_words.specs.Paths.{bytes_cmp}
-use Rattle.far_words.specs.declared.request.Request.TheVariants.{Read}
-use Rattle.far_words.specs.declared.request.Reply.{Reply}
-use Rattle.far_words.specs.declared.request.Reply.TheVariants.{Done, Number, Bytes, Item, Nothing, TooLong, Absent, WrongKind, Exists, Full, Exhausted, StoreFault, Damaged, AbsentUser, NoMemory}
-use Rattle.far_words.specs.declared.request.TheConstants.{MOST_IN_REQUEST}
+use Rattle.far_asks.specs.declared.request.Request.TheVariants.{Read}
+use Rattle.far_asks.specs.declared.request.Reply.{Reply}
+use Rattle.far_asks.specs.declared.request.Reply.TheVariants.{Done, Number, Bytes, Item, Nothing, TooLong, Absent, WrongKind, Exists, Full, Exhausted, StoreFault, Damaged, AbsentUser, NoMemory}
+use Rattle.far_asks.specs.declared.request.TheConstants.{MOST_IN_REQUEST}
 use Rattle.far_history.specs.Worlds.{World}
 use Rattle.far_history.specs.Answers.{refusal}
 use Rattle.far_history.specs.Histories.{State}

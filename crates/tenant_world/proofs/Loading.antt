@@ -5,9 +5,9 @@ use Rattle.std.specs.List.{filter}
 use Rattle.std.proofs.lemmas.List.{take_all, length-map}
 use Rattle.far_io.specs.Faults.{Faults}
 use Rattle.shelf_link.specs.Told.{Told}
-use Rattle.far_words.specs.declared.request.Request.TheVariants.{Load}
-use Rattle.far_words.specs.declared.request.Reply.{Reply}
-use Rattle.far_words.specs.declared.request.Reply.TheVariants.{Done, Number, Bytes, Item, Nothing, TooLong, Absent, WrongKind, Exists, Full, Exhausted, StoreFault, Damaged, AbsentUser, NoMemory}
+use Rattle.far_asks.specs.declared.request.Request.TheVariants.{Load}
+use Rattle.far_asks.specs.declared.request.Reply.{Reply}
+use Rattle.far_asks.specs.declared.request.Reply.TheVariants.{Done, Number, Bytes, Item, Nothing, TooLong, Absent, WrongKind, Exists, Full, Exhausted, StoreFault, Damaged, AbsentUser, NoMemory}
 use Rattle.slice_seq.specs.Purses.{Purse, has_block, open_slices}
 use Rattle.far_history.specs.Answers.{answer, refusal}
 use Rattle.far_history.specs.Entries.{Entry}
@@ -16,7 +16,7 @@ use Rattle.far_history.specs.Needs.{Spot, spots, parked_spots, placing}
 use Rattle.far_history.specs.Histories.{Terms, State, is_excuse, layout_asked}
 use Rattle.far_history.specs.Legal.{Places, Excuse, IsFreed}
 use Rattle.far_history.specs.Standing.{frame_bytes, most_in_frame, IsCaused}
-use Rattle.far_words.specs.declared.request.Outcome.TheVariants.{Reply as Replied}
+use Rattle.far_asks.specs.declared.request.Outcome.TheVariants.{Reply as Replied}
 use Rattle.far_history.proofs.Asked as Asked
 use Rattle.block_list.specs.Lists.{parked_of}
 use Rattle.tenant_world.specs.declared.names.Named.{Named}

@@ -12,9 +12,9 @@ use Rattle.shelf_link.specs.Told.{Told}
 use Rattle.far_words.specs.Paths.{bytes_cmp}
 use Rattle.far_words.specs.Moves.{MovesView, AreInOrder}
 use Rattle.far_words.specs.declared.moves.PlacedRow.{PlacedRow}
-use Rattle.far_words.specs.declared.request.Request.{Request}
-use Rattle.far_words.specs.declared.request.Reply.{Reply}
-use Rattle.far_words.specs.declared.request.Outcome.TheVariants.{Reply as Replied}
+use Rattle.far_asks.specs.declared.request.Request.{Request}
+use Rattle.far_asks.specs.declared.request.Reply.{Reply}
+use Rattle.far_asks.specs.declared.request.Outcome.TheVariants.{Reply as Replied}
 use Rattle.slice_seq.specs.Purses.{Purse, open_slices}
 use Rattle.far_history.specs.Worlds.{Body, Node, with_node}
 use Rattle.far_history.specs.Entries.{Ask, Entry}

@@ -3,9 +3,9 @@ use Rattle.std.proofs.Common.{◌≡◌, ℕ, List, [], length, take, refl, ap, 
 use Rattle.std.proofs.lemmas.List.{take_all}
 use Rattle.far_io.specs.Faults.{Faults}
 use Rattle.shelf_link.specs.Told.{Told}
-use Rattle.far_words.specs.declared.request.Request.TheVariants.{Park}
-use Rattle.far_words.specs.declared.request.Reply.{Reply}
-use Rattle.far_words.specs.declared.request.Reply.TheVariants.{Done, Number, Bytes, Item, Nothing, TooLong, Absent, WrongKind, Exists, Full, Exhausted, StoreFault, Damaged, AbsentUser, NoMemory}
+use Rattle.far_asks.specs.declared.request.Request.TheVariants.{Park}
+use Rattle.far_asks.specs.declared.request.Reply.{Reply}
+use Rattle.far_asks.specs.declared.request.Reply.TheVariants.{Done, Number, Bytes, Item, Nothing, TooLong, Absent, WrongKind, Exists, Full, Exhausted, StoreFault, Damaged, AbsentUser, NoMemory}
 use Rattle.slice_seq.specs.Purses.{Purse, has_block}
 use Rattle.far_history.specs.Answers.{answer, refusal}
 use Rattle.far_history.specs.Layouts.{kept_at, kept_blocks, park_order}

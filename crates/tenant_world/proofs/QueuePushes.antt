@@ -13,10 +13,10 @@ use Rattle.far_io.specs.Faults.{Faults}
 use Rattle.shelf_link.specs.Told.{Told}
 use Rattle.shelf_link.specs.Blocks as map
 use Rattle.far_words.specs.Paths.{bytes_cmp}
-use Rattle.far_words.specs.declared.request.Request.TheVariants.{Push}
-use Rattle.far_words.specs.declared.request.Reply.{Reply}
-use Rattle.far_words.specs.declared.request.Reply.TheVariants.{Done, Number, Bytes, Item, Nothing, TooLong, Absent, WrongKind, Exists, Full, Exhausted, StoreFault, Damaged, AbsentUser, NoMemory}
-use Rattle.far_words.specs.declared.request.TheConstants.{MOST_IN_QUEUE}
+use Rattle.far_asks.specs.declared.request.Request.TheVariants.{Push}
+use Rattle.far_asks.specs.declared.request.Reply.{Reply}
+use Rattle.far_asks.specs.declared.request.Reply.TheVariants.{Done, Number, Bytes, Item, Nothing, TooLong, Absent, WrongKind, Exists, Full, Exhausted, StoreFault, Damaged, AbsentUser, NoMemory}
+use Rattle.far_words.specs.declared.limits.TheConstants.{MOST_IN_QUEUE}
 use Rattle.slice_seq.specs.Purses.{Purse, has_block, open_slices}
 use Rattle.queue_block.specs.Items.{item_size, items_bytes}
 use Rattle.queue_block.specs.Queues.{QueueBlock, has_room, pushed}

@@ -1,9 +1,9 @@
 -- What an append does to a content, its home and the moves that are noted.
 use Rattle.std.specs.Prelude.{◌≡◌, ℕ, ◌+◌, ◌<◌, ◌≤◌, List, [], length, filter, ◌++◌}
 use Rattle.far_io.specs.Faults.{Faults, Rose}
-use Rattle.far_words.specs.declared.request.Reply.{Reply}
-use Rattle.far_words.specs.declared.request.Reply.TheVariants.{Number, WrongKind, Full, Exhausted, StoreFault, Damaged, NoMemory}
-use Rattle.far_words.specs.declared.request.TheConstants.{MOST_IN_FILE}
+use Rattle.far_asks.specs.declared.request.Reply.{Reply}
+use Rattle.far_asks.specs.declared.request.Reply.TheVariants.{Number, WrongKind, Full, Exhausted, StoreFault, Damaged, NoMemory}
+use Rattle.far_words.specs.declared.limits.TheConstants.{MOST_IN_FILE}
 use Rattle.shelf_link.specs.Told.{Told}
 use Rattle.far_history.specs.Worlds.{Body, FileBody, body_bytes}
 use Rattle.far_history.specs.Layouts.{KeptAs, KeptFile, kept_blocks}

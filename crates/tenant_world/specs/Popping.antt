@@ -3,8 +3,8 @@ use Rattle.std.specs.Prelude.{◌≡◌, ◌≢◌, ℕ, ◌+◌, ◌≤◌, Lis
 use Rattle.far_io.specs.Faults.{Faults, Rose}
 use Rattle.far_words.specs.declared.stamp.Stamp.{Stamp}
 use Rattle.far_words.specs.declared.stamp.Found.{Found}
-use Rattle.far_words.specs.declared.request.Reply.{Reply}
-use Rattle.far_words.specs.declared.request.Reply.TheVariants.{Number, Item, Nothing, WrongKind, StoreFault, Damaged, NoMemory}
+use Rattle.far_asks.specs.declared.request.Reply.{Reply}
+use Rattle.far_asks.specs.declared.request.Reply.TheVariants.{Number, Item, Nothing, WrongKind, StoreFault, Damaged, NoMemory}
 use Rattle.shelf_link.specs.Told.{Told, tells}
 use Rattle.shelf_link.specs.Blocks as map
 use Rattle.queue_block.specs.Queues.{QueueBlock, unread, popped}

@@ -1,9 +1,9 @@
 -- What a push does to a content, its home and the moves that are noted.
 use Rattle.std.specs.Prelude.{◌≡◌, ℕ, ◌+◌, ◌<◌, ◌≤◌, List, [], ◌∷◌, ◌++◌}
 use Rattle.far_io.specs.Faults.{Faults, Rose}
-use Rattle.far_words.specs.declared.request.Reply.{Reply}
-use Rattle.far_words.specs.declared.request.Reply.TheVariants.{Done, WrongKind, Full, Exhausted, StoreFault, Damaged, NoMemory}
-use Rattle.far_words.specs.declared.request.TheConstants.{MOST_IN_QUEUE}
+use Rattle.far_asks.specs.declared.request.Reply.{Reply}
+use Rattle.far_asks.specs.declared.request.Reply.TheVariants.{Done, WrongKind, Full, Exhausted, StoreFault, Damaged, NoMemory}
+use Rattle.far_words.specs.declared.limits.TheConstants.{MOST_IN_QUEUE}
 use Rattle.shelf_link.specs.Told.{Told}
 use Rattle.queue_block.specs.Items.{item_size}
 use Rattle.queue_block.specs.Queues.{pushed}

@@ -1,6 +1,6 @@
 //! Bytes at the end of a file.
 ghost use Rattle.std.specs.Prelude.{◌≡◌, ◌≤◌, length};
-ghost use Rattle.far_words.specs.declared.request.TheConstants.{MOST_IN_REQUEST};
+ghost use Rattle.far_asks.specs.declared.request.TheConstants.{MOST_IN_REQUEST};
 ghost use Rattle.block_file.specs.Files.{IsSound};
 ghost use Rattle.tenant_world.specs.Contents.{IsSoundContent};
 ghost use Rattle.tenant_world.specs.Keeping.{IsReady, KeepsStore};
@@ -10,7 +10,8 @@ use crate::names::Content;
 use crate::rows::{push_rows, reply_of};
 use block_file::FileBody;
 use block_home::Home;
-use far_words::{MOST_IN_FILE, Moves, Path, Reply};
+use far_asks::Reply;
+use far_words::{MOST_IN_FILE, Moves, Path};
 use shelf_link::Shelf;
 use std::alloc::Global;
 

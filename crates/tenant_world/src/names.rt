@@ -15,7 +15,8 @@ use crate::rows::reply_of;
 use block_file::FileBody;
 use block_home::Home;
 use block_queue::QueueBody;
-use far_words::{Blob, Kind, Reply};
+use far_asks::{Kind, Reply};
+use far_words::Blob;
 use shelf_link::Shelf;
 use std::alloc::Global;
 

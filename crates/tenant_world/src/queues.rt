@@ -11,7 +11,8 @@ use crate::names::Content;
 use crate::rows::{push_block_rows, reply_of};
 use block_home::Home;
 use block_queue::QueueBody;
-use far_words::{MOST_IN_QUEUE, Moves, Path, Reply};
+use far_asks::Reply;
+use far_words::{MOST_IN_QUEUE, Moves, Path};
 use shelf_link::Shelf;
 use std::alloc::Global;
 

@@ -10,8 +10,7 @@ ghost use Rattle.lease_tree.specs.Trees.{refused_under, base_of, begins_with, pa
 use super::walk::at_name;
 use super::{HasKind, MOST_LISTED, Tree, TreeEnd};
 use crate::order::{Edge, is_under, order};
-use far_words::frames::Names;
-use far_words::{Part, Path};
+use far_words::{Names, Part, Path};
 use std::alloc::AllocError;
 use std::cmp::Ordering;
 

@@ -1,10 +1,11 @@
 //! What a tenant is asked of its queues.
 ghost use Rattle.std.specs.Prelude.{◌≡◌};
-ghost use Rattle.far_words.specs.declared.request.Request.TheVariants.{Push, Pop, Front, Count};
+ghost use Rattle.far_asks.specs.declared.request.Request.TheVariants.{Push, Pop, Front, Count};
 
 use super::Tenant;
 use crate::queues::{count_in, front_content, pop_content, push_content};
-use far_words::{Path, Reply};
+use far_asks::Reply;
+use far_words::Path;
 use queue_block::HEAD;
 use shelf_link::Shelf;
 

@@ -1,5 +1,5 @@
 use Rattle.std.proofs.Common.{[], refl, sym, ap, subst, ◌∙◌}
-use Rattle.far_words.specs.declared.request.Kind.{Kind}
+use Rattle.far_asks.specs.declared.request.Kind.{Kind}
 use Rattle.far_history.specs.Answers.{empty_body}
 use Rattle.far_history.specs.Layouts.{KeptFile, kept_empty}
 use Rattle.block_file.specs.Files.{FileView}

@@ -2,7 +2,7 @@ use Rattle.std.proofs.Common.{◌≡◌, ◌≢◌, ◌≤◌, ℕ, ◌++◌, tr
 use Rattle.std.specs.Prelude.{slice_get}
 use Rattle.std.specs.declared.option.Option.{Option}
 use Rattle.std.specs.List.Sorted.{IsPermutation}
-use Rattle.far_words.specs.declared.request.Reply.{Reply}
+use Rattle.far_asks.specs.declared.request.Reply.{Reply}
 use Rattle.shelf_link.specs.Blocks as map
 use Rattle.queue_block.specs.Queues.{QueueBlock, popped, unread}
 use Rattle.block_seats.specs.Noted.{NotedView}

@@ -1,5 +1,5 @@
 use Rattle.std.proofs.Common.{◌≡◌, ◌≤◌, ◌++◌, ℕ, List, [], length, refl, sym, ap, subst, ◌∙◌, arith, Err}
-use Rattle.far_words.specs.declared.request.Reply.{Reply}
+use Rattle.far_asks.specs.declared.request.Reply.{Reply}
 use Rattle.slice_seq.specs.Purses.{open_slices}
 use Rattle.far_history.specs.Legal.{slices_of}
 use Rattle.shelf_link.specs.Blocks as map

@@ -1,7 +1,7 @@
 use Rattle.std.proofs.Common.{cond, sym, ap, ◌∙◌, Some, None}
 use Rattle.std.specs.FinMap.{find}
 use Rattle.far_words.specs.Paths.{bytes_cmp}
-use Rattle.far_words.specs.declared.frames.Kind.{Kind}
+use Rattle.far_words.specs.declared.kind.Kind.{Kind}
 use Rattle.lease_tree.specs.Trees.{is_dir}
 use Rattle.lease_tree.specs.declared.tree.TreeEnd.TheVariants.{WrongKind}
 use Rattle.lease_tree.proofs.Joins.{are_seen, found_body}

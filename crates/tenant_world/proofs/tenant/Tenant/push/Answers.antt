@@ -1,7 +1,7 @@
 use Rattle.std.proofs.Common.{◌-◌, ℕ, BTreeMap, refl, ap, sym, subst, arith}
 use Rattle.far_words.specs.declared.path.Path.{Path}
-use Rattle.far_words.specs.declared.request.Request.TheVariants.{Push}
-use Rattle.far_words.specs.declared.request.Reply.TheVariants.{TooLong}
+use Rattle.far_asks.specs.declared.request.Request.TheVariants.{Push}
+use Rattle.far_asks.specs.declared.request.Reply.TheVariants.{TooLong}
 use Rattle.tenant_world.specs.declared.names.Named.{Named}
 use Rattle.tenant_world.specs.Serves.{Serves}
 use Rattle.tenant_world.specs.Well.{tenant_view}

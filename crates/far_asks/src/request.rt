@@ -1,16 +1,8 @@
 //! What a user asks for, and what it is told.
-use crate::blob::Blob;
-use crate::path::Path;
-use crate::stamp::{Found, Stamp};
+use far_words::{Blob, Found, Path, Stamp};
 
 /// The most bytes that one request appends or reads.
 pub const MOST_IN_REQUEST: u64 = 65_536;
-
-/// The most bytes of a file, 2^40.
-pub const MOST_IN_FILE: u64 = 1 << 40;
-
-/// The most items of a queue, 2^40.
-pub const MOST_IN_QUEUE: u64 = 1 << 40;
 
 /// What a name stands for.
 #[derive(Clone, Copy, PartialEq, Eq, Debug)]

@@ -1,40 +1,10 @@
-//! All that is said on a connection: the requests and replies of frames.
+//! All that is to be said on a connection: the requests and replies of frames. No connection uses them yet.
 //!
 //! [`crate::Request`] and [`crate::Reply`] are those of them that a tenant serves by now. `docs/FORMATS.md` has the table of
 //! frames.
 
-use crate::blob::Blob;
-use crate::part::Part;
-use crate::path::Path;
-use crate::stamp::{Found, Stamp};
-use item_list::ItemList;
-
-/// What a name stands for.
-#[derive(Clone, Copy, PartialEq, Eq, Debug)]
-pub enum Kind {
-    /// Names under it.
-    Dir,
-    /// Bytes that grow at their end.
-    File,
-    /// Items, first in, first out.
-    Queue,
-    /// Values by keys.
-    Table,
-}
-
-/// Where a block of a name lies: its slice, the number under which the slice is used, and the block's index.
-#[derive(Clone, Copy, PartialEq, Eq, Debug)]
-pub struct Place {
-    pub slice: u32,
-    pub number: u64,
-    pub index: u64,
-}
-
-/// Parts of paths, in the order in which they were found.
-pub type Names = ItemList<Part>;
-
-/// Places of blocks.
-pub type Places = ItemList<Place>;
+pub use far_words::{Kind, Names, Place, Places};
+use far_words::{Blob, Found, Part, Path, Stamp};
 
 /// What is asked on a connection.
 ///
