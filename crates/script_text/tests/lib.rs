@@ -4,10 +4,8 @@ ghost use Rattle.std.specs.Prelude.{◌≡◌, IfOk};
 use crate::{ScriptLine, parse_line, write_moves, write_outcome};
 use far_io::{MemSink, WriteFault};
 use far_asks::{Kind, Outcome, Reply, Request};
-use far_words::{Blob, Found, ImageFault, Moves, Path, PlacedRow, Stamp};
+use far_words::{Found, ImageFault, Moves, Path, PlacedRow, Stamp};
 use std::test::Fail;
-
-mod explain;
 
 fn path(text: &[u8]) -> Result<Path, Fail> {
     Ok(Path::parse(text).ok_or("no path")?)
@@ -96,56 +94,23 @@ fn lines_of_a_name_alone(rt: HostRuntime) -> Result<(), Fail> {
     Ok(())
 }
 
-#[test]
-fn appended_and_pushed_bytes_are_escaped(rt: HostRuntime) -> Result<(), Fail> {
-    let table: [(&[u8], &[u8]); 3] = [
-        (b"append 1 f %", b""),
-        (b"append 1 f a%20b%0A", b"a b\n"),
-        (b"append 1 f %25", b"%"),
-    ];
-    for (text, bytes) in table {
-        let request = Request::Append {
-            path: path(b"f")?,
-            bytes: Blob::from_slice(rt.alloc(), bytes)?,
-        };
-        assert_eq!(rt; line(&rt, text)?, ScriptLine::Ask { user: 1, request });
-    }
-    let items: [(&[u8], &[u8]); 2] = [(b"push 1 q %", b""), (b"push 1 q a%20b%0A", b"a b\n")];
-    for (text, item) in items {
-        let request = Request::Push {
-            path: path(b"q")?,
-            item: Blob::from_slice(rt.alloc(), item)?,
-        };
-        assert_eq!(rt; line(&rt, text)?, ScriptLine::Ask { user: 1, request });
-    }
-    Ok(())
-}
-
+// Further ones are rows of `rows/`, with what is said of each.
 #[test]
 fn lines_outside_the_grammar(rt: HostRuntime) -> Result<(), Fail> {
-    let table: [&[u8]; 48] = [
-        b"",
+    let table: [&[u8]; 37] = [
         b" ",
         b" draw",
-        b"draw ",
         b"draw 0",
-        b"Draw",
-        b"grant",
         b"grant  0",
-        b"grant 00",
         b"grant 0 ",
-        b"grant 4294967296",
         b"make 0 f file",
         b"make 0 f dir 1",
         b"make 0 q Queue 1",
         b"make 0 f File 1",
         b"make 0 f file 1 2",
         b"make 0 f file 01",
-        b"make 0 f file 18446744073709551616",
         b"make 0 /f file 1",
         b"append 0 f",
-        b"append 0 f ",
-        b"append 0 f a b",
         b"append 0 f %0a",
         b"append 0 f %41",
         b"append 0 f %%",
@@ -154,24 +119,22 @@ fn lines_outside_the_grammar(rt: HostRuntime) -> Result<(), Fail> {
         b"append 4294967296 f a",
         b"read 0 f 0",
         b"read 0 f 0 01",
-        b"read 0 f 0 4294967296",
         b"read 0 f 0 1 2",
         b"length 0",
         b"length 0 f ",
         b"length 0 f\n",
-        b"push 0 q",
         b"push 0 q a b",
         b"push 0 q %0a",
         b"pop 0",
         b"pop 0 q 1",
         b"front 0 q ",
         b"count q",
-        b"park 0",
         b"park 0 f 1",
         b"park f",
         b"load 0 f ",
         b"Load 0 f",
         b"now 5",
+        b"quantum",
     ];
     for text in table {
         assert_eq!(rt; parse_line(rt.alloc(), text)?, None);
@@ -186,62 +149,9 @@ fn written(rt: &HostRuntime, outcome: Outcome) -> Result<MemSink, Fail> {
 }
 
 #[test]
-fn outcome_lines(rt: HostRuntime) -> Result<(), Fail> {
-    let bytes = Blob::from_slice(rt.alloc(), b"b %")?;
-    let table = vec![in rt.alloc();
-        (Outcome::Reply(Reply::Done), b"done\n".as_slice()),
-        (
-            Outcome::Reply(Reply::Number(129)),
-            b"number 129\n".as_slice()
-        ),
-        (
-            Outcome::Reply(Reply::Bytes(bytes)),
-            b"bytes b%20%25\n".as_slice()
-        ),
-        (
-            Outcome::Reply(Reply::Item(Blob::new(rt.alloc()))),
-            b"item %\n".as_slice()
-        ),
-        (Outcome::Reply(Reply::Nothing), b"nothing\n".as_slice()),
-        (
-            Outcome::Reply(Reply::TooLong { limit: 65536 }),
-            b"toolong 65536\n".as_slice()
-        ),
-        (
-            Outcome::Reply(Reply::Exhausted {
-                need: 1,
-                used: 2,
-                granted: 3
-            }),
-            b"exhausted 1 2 3\n".as_slice(),
-        ),
-        (
-            Outcome::Reply(Reply::AbsentUser { users: 1 }),
-            b"absentuser 1\n".as_slice()
-        ),
-        (
-            Outcome::Slice {
-                slice: 2,
-                number: 0
-            },
-            b"slice 2 0\n".as_slice()
-        ),
-        (
-            Outcome::Granted {
-                slice: 2,
-                number: 1
-            },
-            b"granted 2 1\n".as_slice()
-        ),
-        (
-            Outcome::Reply(Reply::StoreFault),
-            b"storefault\n".as_slice()
-        ),
-        (Outcome::PoolEmpty, b"poolempty\n".as_slice()),
-    ]?;
-    for (outcome, text) in table {
-        assert_eq!(rt; written(&rt, outcome)?.bytes(), text);
-    }
+fn a_store_fault_is_a_line(rt: HostRuntime) -> Result<(), Fail> {
+    let sink = written(&rt, Outcome::Reply(Reply::StoreFault))?;
+    assert_eq!(rt; sink.bytes(), b"storefault\n".as_slice());
     Ok(())
 }
 
