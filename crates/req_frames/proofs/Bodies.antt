@@ -5,7 +5,7 @@ use Rattle.far_words.specs.declared.frames.Request.{Request}
 use Rattle.far_words.specs.declared.frames.Reply.{Reply}
 use Rattle.frame_fields.specs.declared.ends.ReadEnd.{ReadEnd}
 use Rattle.frame_fields.specs.Fields.{Byte, spelling}
-use Rattle.frame_fields.specs.Layouts.{is_in, row_of, tagged}
+use Rattle.frame_fields.specs.FrameLayouts.{is_in, row_of, tagged}
 use Rattle.frame_fields.specs.Reads.{ReadsAll}
 use Rattle.frame_fields.proofs.LayoutLaws.{tag_read}
 use Rattle.req_frames.specs.Requests as asked

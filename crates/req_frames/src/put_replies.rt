@@ -2,7 +2,7 @@
 
 ghost use Rattle.std.specs.Prelude.{[], ◌∷◌, ◌++◌, length, OnOk};
 ghost use Rattle.frame_fields.specs.Fields.{Byte, Word, Long, Text};
-ghost use Rattle.frame_fields.specs.Layouts.{Stop, both, tagged};
+ghost use Rattle.frame_fields.specs.FrameLayouts.{Stop, both, tagged};
 ghost use Rattle.frame_fields.specs.Parts.{a_byte, a_word, a_long, a_blob, a_part, part_fields, rows_of, fields_of_rows, place, place_fields, optional_long, optional_fields};
 ghost use Rattle.frame_fields.specs.Stamps;
 ghost use Rattle.frame_fields.specs.Stamps.{stamp_fields, found_fields};

@@ -2,7 +2,7 @@
 
 ghost use Rattle.std.specs.Prelude.{[], ◌∷◌, OnOk};
 ghost use Rattle.frame_fields.specs.Fields.{Byte, Word, Long, Text, After};
-ghost use Rattle.frame_fields.specs.Layouts.{Stop, tagged};
+ghost use Rattle.frame_fields.specs.FrameLayouts.{Stop, tagged};
 ghost use Rattle.frame_fields.specs.Parts.{a_byte, a_word, a_long, a_blob, a_path, an_after, a_kind, kind_byte};
 ghost use Rattle.frame_fields.specs.Frames.{AreShort, Extends, IsPut};
 ghost use Rattle.req_frames.specs.Requests.{request_fields, requests};
