@@ -1,5 +1,5 @@
 -- The table of replies.
-use Rattle.std.specs.Prelude.{ℕ, List, [], ◌∷◌, ◌++◌, length}
+use Rattle.std.specs.Prelude.{ℕ, ◌<◌, ◌^◌, List, [], ◌∷◌, ◌++◌, length}
 use Rattle.std.specs.declared.result.Result.{Result}
 use Rattle.far_words.specs.declared.frames.Reply.{Reply}
 use Rattle.far_words.specs.declared.frames.Reply.TheVariants.{Done, Number, Bytes, Item, Nothing, Names, Places, Share, TooLong, Absent, WrongKind, Exists, Exhausted, StoreFault, Damaged, Stale, AbsentUser, TooMuch, NoMemory, Full}
@@ -8,7 +8,7 @@ use Rattle.req_frames.specs.declared.kinds.ReplyKind.TheVariants as kinds
 use Rattle.frame_fields.specs.declared.ends.ReadEnd.{ReadEnd}
 use Rattle.frame_fields.specs.Fields.{Field, Byte, Word, Long, Text}
 use Rattle.frame_fields.specs.FrameLayouts.{Layout, Stop, both, Table, row_of}
-use Rattle.frame_fields.specs.Reads.{ReadsTagged}
+use Rattle.frame_fields.specs.Reads.{ReadsKind}
 use Rattle.frame_fields.specs.Parts.{a_word, a_long, a_blob, a_part, part_fields, rows_of, fields_of_rows, place, place_fields, optional_long, optional_fields}
 use Rattle.frame_fields.specs.Stamps.{stamp, stamp_fields, found, found_fields}
 use Rattle.frame_fields.specs.Frames.{frame_of, IsFrameBody, IsBadFrame}
@@ -116,6 +116,12 @@ reply_rest (Full limit) = Long limit ∷ []
 abbrev pub reply_fields : Reply → List Field
 reply_fields reply = Byte (reply_byte (reply_kind reply)) ∷ reply_rest reply
 
+-- a count has room for its rows
+abbrev pub HasFewRows : Reply → Type 0
+HasFewRows (Names names) = length names < 2 ^ 32
+HasFewRows (Places places) = length places < 2 ^ 32
+HasFewRows reply = Unit {0}
+
 -- the one frame of a reply
 unfoldable pub reply_frame : Reply → List ℕ
 reply_frame reply = frame_of (reply_fields reply)
@@ -130,4 +136,4 @@ IsBadReply = IsBadFrame replies
 
 -- what reading the fields that follow a kind answers
 abbrev pub ReadsReply : ReplyKind → List ℕ → Result Reply ReadEnd → Type 0
-ReadsReply kind = ReadsTagged reply_kind reply_rest kind (reply_layout kind)
+ReadsReply kind = ReadsKind reply_kind reply_rest kind (reply_layout kind)

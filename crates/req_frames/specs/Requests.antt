@@ -9,7 +9,7 @@ use Rattle.req_frames.specs.declared.kinds.RequestKind.TheVariants as kinds
 use Rattle.frame_fields.specs.declared.ends.ReadEnd.{ReadEnd}
 use Rattle.frame_fields.specs.Fields.{Field, Byte, Word, Long, Text, After}
 use Rattle.frame_fields.specs.FrameLayouts.{Layout, Stop, Table, row_of}
-use Rattle.frame_fields.specs.Reads.{ReadsTagged}
+use Rattle.frame_fields.specs.Reads.{ReadsKind}
 use Rattle.frame_fields.specs.Parts.{a_word, a_long, a_blob, a_path, an_after, a_kind, kind_byte}
 use Rattle.frame_fields.specs.Frames.{frame_of, IsFrameBody, IsBadFrame}
 
@@ -154,4 +154,4 @@ IsBadRequest = IsBadFrame requests
 
 -- what reading the fields that follow a kind answers
 abbrev pub ReadsRequest : RequestKind → List ℕ → Result Request ReadEnd → Type 0
-ReadsRequest kind = ReadsTagged request_kind request_rest kind (request_layout kind)
+ReadsRequest kind = ReadsKind request_kind request_rest kind (request_layout kind)
