@@ -1,5 +1,5 @@
 -- The table of replies.
-use Rattle.std.specs.Prelude.{ℕ, ◌<◌, ◌^◌, List, [], ◌∷◌, ◌++◌, length}
+use Rattle.std.specs.Prelude.{ℕ, ◌<◌, ◌^◌, Bool, true, false, List, [], ◌∷◌, ◌++◌, length}
 use Rattle.std.specs.declared.result.Result.{Result}
 use Rattle.far_words.specs.declared.frames.Reply.{Reply}
 use Rattle.far_words.specs.declared.frames.Reply.TheVariants.{Done, Number, Bytes, Item, Nothing, Names, Places, Share, TooLong, Absent, WrongKind, Exists, Exhausted, StoreFault, Damaged, Stale, AbsentUser, TooMuch, NoMemory, Full}
@@ -67,6 +67,25 @@ replies =
 -- what follows a kind
 abbrev pub reply_layout : ReplyKind → Layout
 reply_layout kind = row_of replies (reply_byte kind)
+
+-- nothing follows the kind
+abbrev pub is_alone : ReplyKind → Bool
+is_alone kinds.Done = true
+is_alone kinds.Nothing = true
+is_alone kinds.Absent = true
+is_alone kinds.WrongKind = true
+is_alone kinds.Exists = true
+is_alone kinds.StoreFault = true
+is_alone kinds.NoMemory = true
+is_alone kind = false
+
+-- a number follows the kind
+abbrev pub is_number : ReplyKind → Bool
+is_number kinds.Number = true
+is_number kinds.TooLong = true
+is_number kinds.TooMuch = true
+is_number kinds.Full = true
+is_number kind = false
 
 -- the kind of a reply, and the fields that follow it
 abbrev pub reply_kind : Reply → ReplyKind

@@ -1,5 +1,5 @@
 -- The table of requests.
-use Rattle.std.specs.Prelude.{ℕ, List, [], ◌∷◌}
+use Rattle.std.specs.Prelude.{ℕ, Bool, true, false, List, [], ◌∷◌}
 use Rattle.std.specs.declared.result.Result.{Result}
 use Rattle.far_words.specs.declared.frames.Request.{Request}
 use Rattle.far_words.specs.declared.frames.Request.TheVariants.{Hello, Make, DropTree, Top, Renew, Lease, Append, Read, Length, Push, Pop, Front, Count, Put, Get, Remove, Park, Load, Map, ReadSlice, GetSlice, PutSlice, Report, Share, Bye}
@@ -79,6 +79,26 @@ requests =
 -- what follows a kind
 abbrev pub request_layout : RequestKind → Layout
 request_layout kind = row_of requests (request_byte kind)
+
+-- a name and no more follows the kind
+abbrev pub is_named : RequestKind → Bool
+is_named kinds.DropTree = true
+is_named kinds.Lease = true
+is_named kinds.Length = true
+is_named kinds.Pop = true
+is_named kinds.Front = true
+is_named kinds.Count = true
+is_named kinds.Park = true
+is_named kinds.Load = true
+is_named kind = false
+
+-- a name and bytes follow the kind
+abbrev pub is_named_blob : RequestKind → Bool
+is_named_blob kinds.Append = true
+is_named_blob kinds.Push = true
+is_named_blob kinds.Get = true
+is_named_blob kinds.Remove = true
+is_named_blob kind = false
 
 -- the kind of a request, and the fields that follow it
 abbrev pub request_kind : Request → RequestKind

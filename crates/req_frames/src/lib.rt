@@ -6,10 +6,12 @@
 
 /// Reads all of the bytes as the fields that the pattern takes, and gives what is made of these.
 macro_rules! read_as {
-    ($alloc:expr, $bytes:expr, $fields:pat => $made:expr) => {{
-        let $fields = read_all($alloc, $bytes)?;
-        Ok($made)
-    }};
+    ($alloc:expr, $bytes:expr, $fields:pat => $made:expr) => {
+        match read_all($alloc, $bytes) {
+            Ok($fields) => Ok($made),
+            Err(end) => Err(end),
+        }
+    };
 }
 
 mod decode;

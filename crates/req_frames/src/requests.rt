@@ -1,12 +1,14 @@
 //! The bodies of requests: a kind, and the fields of that kind.
 
-ghost use Rattle.frame_fields.specs.Fields.{Byte, AByte};
+ghost use Rattle.std.specs.Prelude.{◌≡◌, [], ◌∷◌, IsTrue};
+ghost use Rattle.frame_fields.specs.Fields.{Byte, Text, AByte};
 ghost use Rattle.frame_fields.specs.FrameLayouts.{is_in, tagged};
 ghost use Rattle.frame_fields.specs.Reads.{Finds, ReadsAll};
-ghost use Rattle.req_frames.specs.Requests.{ReadsRequest, requests, request_byte, request_fields};
+ghost use Rattle.req_frames.specs.Requests.{ReadsRequest, requests, request_byte, request_kind, is_named, is_named_blob, request_rest, request_fields};
 
 use crate::kinds::RequestKind as Kind;
 use far_words::frames::Request;
+use far_words::{Blob, Path};
 use frame_fields::{ReadEnd, byte_at, read_all};
 use std::alloc::Global;
 
@@ -23,6 +25,38 @@ fn kind_at(body: &[u8]) -> Option<(Kind, &[u8])>
     Some((kind, rest))
 }
 
+/// The request of a kind that a name alone follows.
+fn named(kind: Kind, path: Path) -> Request
+    requires { IsTrue (is_named kind) }
+    ensures kind { request_kind result ≡ kind }
+    ensures rest { request_rest result ≡ Text path ∷ [] }
+{
+    match kind {
+        Kind::DropTree => Request::DropTree { path },
+        Kind::Lease => Request::Lease { path },
+        Kind::Length => Request::Length { path },
+        Kind::Pop => Request::Pop { path },
+        Kind::Front => Request::Front { path },
+        Kind::Count => Request::Count { path },
+        Kind::Park => Request::Park { path },
+        _ => Request::Load { path },
+    }
+}
+
+/// The request of a kind that a name and bytes follow.
+fn named_blob(kind: Kind, path: Path, bytes: Blob) -> Request
+    requires { IsTrue (is_named_blob kind) }
+    ensures kind { request_kind result ≡ kind }
+    ensures rest { request_rest result ≡ Text path ∷ Text bytes ∷ [] }
+{
+    match kind {
+        Kind::Append => Request::Append { path, bytes },
+        Kind::Push => Request::Push { path, item: bytes },
+        Kind::Get => Request::Get { path, key: bytes },
+        _ => Request::Remove { path, key: bytes },
+    }
+}
+
 /// The request of a kind, of which these bytes are the fields.
 fn request_of(kind: Kind, alloc: Global, bytes: &[u8]) -> Result<Request, ReadEnd>
     ensures { ReadsRequest kind bytes.now result }
@@ -30,23 +64,23 @@ fn request_of(kind: Kind, alloc: Global, bytes: &[u8]) -> Result<Request, ReadEn
     match kind {
         Kind::Hello => read_as!(alloc, bytes, (user, ()) => Request::Hello { user }),
         Kind::Make => read_as!(alloc, bytes, (path, (kind, (span, ()))) => Request::Make { path, kind, span }),
-        Kind::DropTree => read_as!(alloc, bytes, (path, ()) => Request::DropTree { path }),
+        Kind::DropTree
+        | Kind::Lease
+        | Kind::Length
+        | Kind::Pop
+        | Kind::Front
+        | Kind::Count
+        | Kind::Park
+        | Kind::Load => read_as!(alloc, bytes, (path, ()) => named(kind, path)),
         Kind::List => read_as!(alloc, bytes, (path, (after, ())) => Request::List { path, after }),
         Kind::Top => read_as!(alloc, bytes, (after, ()) => Request::Top { after }),
         Kind::Renew => read_as!(alloc, bytes, (path, (span, ())) => Request::Renew { path, span }),
-        Kind::Lease => read_as!(alloc, bytes, (path, ()) => Request::Lease { path }),
-        Kind::Append => read_as!(alloc, bytes, (path, (bytes, ())) => Request::Append { path, bytes }),
+        Kind::Append
+        | Kind::Push
+        | Kind::Get
+        | Kind::Remove => read_as!(alloc, bytes, (path, (bytes, ())) => named_blob(kind, path, bytes)),
         Kind::Read => read_as!(alloc, bytes, (path, (from, (len, ()))) => Request::Read { path, from, len }),
-        Kind::Length => read_as!(alloc, bytes, (path, ()) => Request::Length { path }),
-        Kind::Push => read_as!(alloc, bytes, (path, (item, ())) => Request::Push { path, item }),
-        Kind::Pop => read_as!(alloc, bytes, (path, ()) => Request::Pop { path }),
-        Kind::Front => read_as!(alloc, bytes, (path, ()) => Request::Front { path }),
-        Kind::Count => read_as!(alloc, bytes, (path, ()) => Request::Count { path }),
         Kind::Put => read_as!(alloc, bytes, (path, (key, (value, ()))) => Request::Put { path, key, value }),
-        Kind::Get => read_as!(alloc, bytes, (path, (key, ())) => Request::Get { path, key }),
-        Kind::Remove => read_as!(alloc, bytes, (path, (key, ())) => Request::Remove { path, key }),
-        Kind::Park => read_as!(alloc, bytes, (path, ()) => Request::Park { path }),
-        Kind::Load => read_as!(alloc, bytes, (path, ()) => Request::Load { path }),
         Kind::Map => read_as!(alloc, bytes, (path, (from, ())) => Request::Map { path, from }),
         Kind::ReadSlice => read_as!(alloc, bytes, (slice, (number, (from, (len, ())))) => Request::ReadSlice { slice, number, from, len }),
         Kind::GetSlice => read_as!(alloc, bytes, (slice, (number, (key, ()))) => Request::GetSlice { slice, number, key }),
