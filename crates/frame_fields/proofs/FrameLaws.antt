@@ -1,10 +1,10 @@
 -- Whole frames.
 use Rattle.std.proofs.Common.{◌≡◌, ℕ, ◌+◌, ◌<◌, ◌≤◌, ◌^◌, List, [], ◌∷◌, ◌++◌, length, take, drop, sym, ap, subst, ◌∙◌, append-nil, arith}
 use Rattle.std.proofs.lemmas.List.{length-append, length-drop, take_all, drop_all}
-use Rattle.frame_fields.specs.Fields.{Field, Text, spelling, spelled}
-use Rattle.frame_fields.specs.Layouts.{Table, tagged, Fits, IsBad}
+use Rattle.frame_fields.specs.Fields.{Field, Byte, Word, Long, Digest, Text, After, spelling, spelled}
+use Rattle.frame_fields.specs.FrameLayouts.{Table, tagged, Fits, IsBad}
 use Rattle.frame_fields.specs.Parts.{fields_of_rows}
-use Rattle.frame_fields.specs.Frames.{frame_of, AreShort, FitsFrame, said, IsFrame, IsBadFrame}
+use Rattle.frame_fields.specs.Frames.{frame_of, AreShort, HaveShortTexts, IsFrameBody, said, IsFrame, IsBadFrame}
 use Rattle.frame_fields.proofs.FieldLaws.{IsBytes, word_found, text_found, text_one, length_text}
 use Rattle.frame_fields.proofs.LayoutLaws.{spelled_more, bad_within}
 use Rattle.frame_fields.proofs.RowLaws.{rows_below}
@@ -29,14 +29,25 @@ bodies_one a b low high same = (text_one a b [] [] low high (append-nil (spellin
 body_short : (frame body : List ℕ) → IsFrame frame → frame ≡ spelling (Text body) → length body < 2 ^ 32
 body_short frame body is same = omega (arith, is.long, is.short, ap length same, length_text body)
 
--- a text within short fields is short
-pub short_text : (front : List Field) (text : List ℕ) (more : List Field) → AreShort (front ++ Text text ∷ more)
-    → length text < 2 ^ 32
-short_text front text more short =
-    let parts = ap length (spelled_more front (Text text ∷ more))
-    ∙ length-append (spelled front) (spelled (Text text ∷ more)) in
-    let behind = length-append (spelling (Text text)) (spelled more) in
-    omega (arith, short, parts, behind, length_text text)
+-- the texts of short fields are short
+others_below : (field : Field) (fields : List Field) → length (spelled (field ∷ fields)) < 2 ^ 32
+    → length (spelled fields) < 2 ^ 32
+others_below field fields low = omega (arith, low, length-append (spelling field) (spelled fields))
+
+texts_below : (fields : List Field) → length (spelled fields) < 2 ^ 32 → HaveShortTexts fields
+texts_below [] low = tt
+texts_below (Text text ∷ fields) low = (
+  omega (arith, low, length-append (spelling (Text text)) (spelled fields), length_text text),
+  texts_below fields (others_below (Text text) fields low),
+)
+texts_below (Byte n ∷ fields) low = texts_below fields (others_below (Byte n) fields low)
+texts_below (Word n ∷ fields) low = texts_below fields (others_below (Word n) fields low)
+texts_below (Long n ∷ fields) low = texts_below fields (others_below (Long n) fields low)
+texts_below (Digest bytes ∷ fields) low = texts_below fields (others_below (Digest bytes) fields low)
+texts_below (After part ∷ fields) low = texts_below fields (others_below (After part) fields low)
+
+pub short_texts : (fields : List Field) → AreShort fields → HaveShortTexts fields
+short_texts fields short = texts_below fields (omega (arith, short))
 
 -- and short rows are few
 pub few_rows : {X : Type 0} (fields : X → List Field) → ((row : X) → 1 ≤ length (spelled (fields row)))
@@ -57,7 +68,7 @@ module _ (table : Table) where
   -- bytes that are as long as they say, and whose body is these fields, are their frame
   pub whole_frame : (frame : List ℕ) (fields : List Field) → IsBytes frame → IsFrame frame
       → (drop 4 frame ≡ spelled fields) × Fits (tagged table) fields
-      → (frame ≡ frame_of fields) × FitsFrame table fields
+      → (frame ≡ frame_of fields) × IsFrameBody table fields
   whole_frame frame fields bytes is read = (
     framed frame bytes is.long ∙ ap (λ (t : List ℕ). spelling (Text t)) read.0,
     record { fits = read.1; short = omega (arith, is.long, is.short, length-drop 4 frame, ap length read.0) },
@@ -70,7 +81,7 @@ module _ (table : Table) where
 
   -- a bad frame is no frame of the table
   pub bad_frame_none : (frame : List ℕ) (place : ℕ) (fields : List Field) → IsFrame frame
-      → IsBadFrame table frame place → FitsFrame table fields → frame ≡ frame_of fields → ⊥
+      → IsBadFrame table frame place → IsFrameBody table fields → frame ≡ frame_of fields → ⊥
   bad_frame_none frame place fields is bad fits same =
       let b : bad.body ≡ spelled fields =
       bodies_one bad.body (spelled fields) (body_short frame bad.body is bad.framed)
@@ -88,16 +99,16 @@ module _ (table : Table) where
       (subst (λ (t : List ℕ). IsBad (tagged table) t p.left) b p.bad) q.bad in
       omega (arith, l, p.place_is, q.place_is)
 
-  short : (fields : List Field) → FitsFrame table fields → length (spelled fields) < 2 ^ 32
+  short : (fields : List Field) → IsFrameBody table fields → length (spelled fields) < 2 ^ 32
   short fields fits = omega (arith, fits.short)
 
   -- a frame is that of one list of fields, and begins no other frame
-  pub frame_first : (xs ys : List Field) (a b : List ℕ) → FitsFrame table xs → FitsFrame table ys
+  pub frame_first : (xs ys : List Field) (a b : List ℕ) → IsFrameBody table xs → IsFrameBody table ys
       → frame_of xs ++ a ≡ frame_of ys ++ b → (xs ≡ ys) × (a ≡ b)
   frame_first xs ys a b p q same =
       let o = text_one (spelled xs) (spelled ys) a b (short xs p) (short ys q) same in
       (fields_alone (tagged table) xs ys p.fits q.fits o.0, o.1)
 
-  pub frame_one : (xs ys : List Field) → FitsFrame table xs → FitsFrame table ys → frame_of xs ≡ frame_of ys → xs ≡ ys
+  pub frame_one : (xs ys : List Field) → IsFrameBody table xs → IsFrameBody table ys → frame_of xs ≡ frame_of ys → xs ≡ ys
   frame_one xs ys p q same = (frame_first xs ys [] [] p q (append-nil (frame_of xs) ∙ same
       ∙ sym (append-nil (frame_of ys)))).0

@@ -1,14 +1,15 @@
 -- Fields of layouts, one after another.
-use Rattle.std.proofs.Common.{◌≡◌, ℕ, ◌+◌, ◌≤◌, eqb, true, false, List, [], ◌∷◌, ◌++◌, length, Result, Ok, Err, refl, sym, ap, subst, ◌∙◌, append_assoc, arith, inl, inr}
+use Rattle.std.proofs.Common.{◌≡◌, ℕ, ◌+◌, ◌≤◌, eqb, false, List, [], ◌∷◌, ◌++◌, length, Result, Ok, Err, refl, sym, ap, subst, ◌∙◌, append_assoc, arith, inl, inr}
 use Rattle.std.specs.Prelude.{IsTrue}
 use Rattle.std.proofs.lemmas.Bool.{or_from, ne_eqb}
 use Rattle.std.proofs.lemmas.List.{length-append}
 use Rattle.frame_fields.specs.declared.ends.ReadEnd.{ReadEnd}
 use Rattle.frame_fields.specs.declared.ends.ReadEnd.TheVariants.{Bad, NoMemory}
 use Rattle.frame_fields.specs.Fields.{Field, Byte, AByte, NoValue, spelling, spelled}
-use Rattle.frame_fields.specs.Layouts.{Layout, Stop, Then, Fits, both, Table, is_in, row_of, tagged, IsBroken, IsBad}
-use Rattle.frame_fields.specs.Reads.{Blames, ReadsAll, ReadsTagged}
-use Rattle.frame_fields.proofs.FieldLaws.{no_byte_within, not_byte}
+use Rattle.frame_fields.specs.FrameLayouts.{Layout, Stop, Then, Fits, both, Table, is_in, row_of, tagged, IsBroken, IsBad}
+use Rattle.frame_fields.specs.Reads.{Blames, ReadsAll, ReadsKind}
+use Rattle.frame_fields.specs.Frames.{IsPut}
+use Rattle.frame_fields.proofs.FieldLaws.{not_byte}
 
 pub spelled_more : (xs ys : List Field) → spelled (xs ++ ys) ≡ spelled xs ++ spelled ys
 spelled_more [] ys = refl
@@ -102,7 +103,7 @@ abbrev pub IsNone : Table → ℕ → Type 0
 IsNone [] tag = Unit {0}
 IsNone (row ∷ table) tag = (tag ≡ row.0 → ⊥) × IsNone table tag
 
-none_in : (table : Table) (tag : ℕ) → IsNone table tag → is_in table tag ≡ false
+pub none_in : (table : Table) (tag : ℕ) → IsNone table tag → is_in table tag ≡ false
 none_in [] tag none = refl
 none_in (row ∷ table) tag none =
     or_from (eqb tag row.0) (is_in table tag) (ne_eqb tag row.0 none.0) (none_in table tag none.1)
@@ -113,28 +114,20 @@ module _ (table : Table) where
       → IsBroken (tagged table) bytes (length bytes)
   no_tag tag bytes rest begins none = inl (refl, not_byte (is_in table) tag bytes rest begins (none_in table tag none))
 
-  -- no byte at all
-  pub no_tag_at : (bytes : List ℕ) → NoValue (AByte (λ _. true)) bytes → IsBroken (tagged table) bytes (length bytes)
-  no_tag_at bytes none = inl (refl, no_byte_within (is_in table) bytes none)
+  -- no byte that is a tag
+  pub no_tag_at : (bytes : List ℕ) → NoValue (AByte (is_in table)) bytes → IsBroken (tagged table) bytes (length bytes)
+  no_tag_at bytes none = inl (refl, none)
 
-  bad_after : (tag : ℕ) (layout : Layout) (bytes rest : List ℕ) (left : ℕ) → bytes ≡ spelling (Byte tag) ++ rest
-      → IsTrue (is_in table tag) → row_of table tag ≡ layout
-      → IsBad layout rest left → IsBad (tagged table) bytes left
-  bad_after tag layout bytes rest left begins known is bad =
+  bad_after : (tag : ℕ) (bytes rest : List ℕ) (left : ℕ) → bytes ≡ spelling (Byte tag) ++ rest
+      → IsTrue (is_in table tag) → IsBad (row_of table tag) rest left → IsBad (tagged table) bytes left
+  bad_after tag bytes rest left begins known bad =
       elim bad [
-        | inl broken ↦ inl (inr (
-          Byte tag,
-          rest,
-          known,
-          begins,
-          subst (λ (l : Layout). IsBroken l rest left) (sym is)
-              broken,
-        ))
+        | inl broken ↦ inl (inr (Byte tag, rest, known, begins, broken))
         | inr over ↦
             inr (record {
               fields = Byte tag ∷ over.fields;
               rest = over.rest;
-              fits = (known, subst (λ (l : Layout). Fits l over.fields) (sym is) over.fits);
+              fits = (known, over.fits);
               begins = begins ∙ ap (λ (t : List ℕ). spelling (Byte tag) ++ t) over.begins
                   ∙ sym (append_assoc (spelling (Byte tag)) (spelled over.fields) over.rest);
               some = over.some;
@@ -142,20 +135,31 @@ module _ (table : Table) where
             })
       ]
 
-  -- what was read behind a tag, with the tag
-  pub tag_read : {X : Type 0} (tag_of : X → ℕ) (fields_after : X
-      → List Field) (tag : ℕ) (layout : Layout) (bytes rest : List ℕ) (result : Result X ReadEnd)
-      → bytes ≡ spelling (Byte tag) ++ rest → IsTrue (is_in table tag) → row_of table tag ≡ layout
-      → ReadsTagged tag_of fields_after tag layout rest result
-      → ReadsAll (λ x. Byte (tag_of x) ∷ fields_after x) (tagged table) bytes result
-  tag_read tag_of fields_after tag layout bytes rest (Ok x) begins known is read = (
-    begins ∙ ap (λ (t : List ℕ). spelling (Byte tag) ++ t) read.1
-        ∙ ap (λ (n : ℕ). spelling (Byte n) ++ spelled (fields_after x)) (sym read.0),
-    (
-      subst (λ (n : ℕ). IsTrue (is_in table n)) (sym read.0) known,
-      subst (λ (l : Layout). Fits l (fields_after x)) (sym (ap (row_of table) read.0 ∙ is)) read.2,
-    ),
+  module _ {K : Type 0} (byte_of : K → ℕ) where
+    -- what was read behind a kind, with the kind
+    pub kind_read : {X : Type 0} (kind_of : X → K) (fields_after : X → List Field) (kind : K) (bytes rest : List ℕ)
+        (result : Result X ReadEnd) → bytes ≡ spelling (Byte (byte_of kind)) ++ rest
+        → IsTrue (is_in table (byte_of kind))
+        → ReadsKind kind_of fields_after kind (row_of table (byte_of kind)) rest result
+        → ReadsAll (λ x. Byte (byte_of (kind_of x)) ∷ fields_after x) (tagged table) bytes result
+    kind_read kind_of fields_after kind bytes rest (Ok x) begins known read = (
+      begins ∙ ap (λ (t : List ℕ). spelling (Byte (byte_of kind)) ++ t) read.1
+          ∙ ap (λ (k : K). spelling (Byte (byte_of k)) ++ spelled (fields_after x)) (sym read.0),
+      (
+        subst (λ (k : K). IsTrue (is_in table (byte_of k))) (sym read.0) known,
+        subst (λ (k : K). Fits (row_of table (byte_of k)) (fields_after x)) (sym read.0) read.2,
+      ),
+    )
+    kind_read kind_of fields_after kind bytes rest (Err (Bad left)) begins known read =
+        bad_after (byte_of kind) bytes rest left begins known read
+    kind_read kind_of fields_after kind bytes rest (Err NoMemory) begins known read = tt
+
+  -- what was put behind a tag, with the tag
+  pub put_after_tag : (tag : ℕ) (fields : List Field) (old half new : List ℕ) → IsTrue (is_in table tag)
+      → half ≡ old ++ spelling (Byte tag) → IsPut (row_of table tag) fields half new
+      → IsPut (tagged table) (Byte tag ∷ fields) old new
+  put_after_tag tag fields old half new known begun put = (
+    put.0 ∙ ap (λ (t : List ℕ). t ++ spelled fields) begun
+        ∙ append_assoc old (spelling (Byte tag)) (spelled fields),
+    (known, put.1),
   )
-  tag_read tag_of fields_after tag layout bytes rest (Err (Bad left)) begins known is read = bad_after tag layout
-      bytes rest left begins known is read
-  tag_read tag_of fields_after tag layout bytes rest (Err NoMemory) begins known is read = tt

@@ -1,7 +1,7 @@
 -- One spelling, and one bad place.
 use Rattle.std.proofs.Common.{◌≡◌, ℕ, List, [], ◌∷◌, ◌++◌, length, refl, sym, ap, subst, ◌∙◌, append_assoc, append-nil, arith, inl, inr}
 use Rattle.frame_fields.specs.Fields.{Field, spelling, spelled}
-use Rattle.frame_fields.specs.Layouts.{Layout, Stop, Then, Fits, IsBroken, IsLeft, IsBad}
+use Rattle.frame_fields.specs.FrameLayouts.{Layout, Stop, Then, Fits, IsBroken, IsLeft, IsBad}
 use Rattle.frame_fields.proofs.FieldLaws.{value_one}
 
 -- fields of a layout have one spelling each, and none begins another

@@ -5,7 +5,7 @@ use Rattle.far_words.specs.declared.place.Place.{Place}
 use Rattle.frame_fields.specs.declared.ends.ReadEnd.{ReadEnd}
 use Rattle.frame_fields.specs.declared.ends.ReadEnd.TheVariants.{Bad, NoMemory}
 use Rattle.frame_fields.specs.Fields.{Field, Word, Long, Text, spelling, spelled}
-use Rattle.frame_fields.specs.Layouts.{Layout, Stop, Then, Fits, both, times, IsBroken}
+use Rattle.frame_fields.specs.FrameLayouts.{Layout, Stop, Then, Fits, both, times, IsBroken}
 use Rattle.frame_fields.specs.Reads.{Blames}
 use Rattle.frame_fields.specs.Parts.{a_word, rows_of, fields_of_rows, part_fields, place_fields}
 use Rattle.frame_fields.proofs.FieldLaws.{length_word, length_text}

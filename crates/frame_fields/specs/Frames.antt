@@ -1,8 +1,8 @@
 -- Frames: a length of four bytes, and so many bytes, which are a kind and the fields of that kind.
-use Rattle.std.specs.Prelude.{◌≡◌, ℕ, ◌+◌, ◌≤◌, List, ◌++◌, length, take}
+use Rattle.std.specs.Prelude.{◌≡◌, ℕ, ◌+◌, ◌<◌, ◌≤◌, ◌^◌, List, [], ◌∷◌, ◌++◌, length, take}
 use Rattle.std.specs.Int.{w32, from_be_bytes}
 use Rattle.frame_fields.specs.Fields.{Field, Text, spelling, spelled}
-use Rattle.frame_fields.specs.Layouts.{Layout, Table, tagged, Fits, IsBad}
+use Rattle.frame_fields.specs.FrameLayouts.{Layout, Table, tagged, Fits, IsBad}
 use Rattle.frame_fields.specs.declared.lengths.TheConstants.{MOST_IN_FRAME}
 
 -- the frame of these fields, of which the first is the kind: they stand behind the count of their bytes
@@ -13,8 +13,14 @@ frame_of fields = spelling (Text (spelled fields))
 abbrev pub AreShort : List Field → Type 0
 AreShort fields = length (spelled fields) ≤ MOST_IN_FRAME
 
+-- each of their texts is short enough for its count
+abbrev pub HaveShortTexts : List Field → Type 0
+HaveShortTexts [] = Unit {0}
+HaveShortTexts (Text text ∷ fields) = (length text < 2 ^ 32) × HaveShortTexts fields
+HaveShortTexts (field ∷ fields) = HaveShortTexts fields
+
 -- and they are fields of the table
-pub record FitsFrame (table : Table) (fields : List Field) : Type 0 where
+pub record IsFrameBody (table : Table) (fields : List Field) : Type 0 where
   pub fits : Fits (tagged table) fields
   pub short : AreShort fields
 

@@ -1,7 +1,7 @@
 -- fields, and the one spelling of each
 pub mod Fields
 -- which fields follow one another, and the place of the first bad one
-pub mod Layouts
+pub mod FrameLayouts
 -- what reading answers
 pub mod Reads
 -- the layouts of which a table of frames is made

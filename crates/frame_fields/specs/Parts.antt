@@ -6,7 +6,7 @@ use Rattle.far_words.specs.declared.kind.Kind.{Kind}
 use Rattle.far_words.specs.declared.kind.Kind.TheVariants.{Dir, File, Queue, Table}
 use Rattle.far_words.specs.declared.place.Place.{Place}
 use Rattle.frame_fields.specs.Fields.{Field, Byte, Word, Long, Text, AByte, AWord, ALong, ADigest, AText, AnAfter}
-use Rattle.frame_fields.specs.Layouts.{Layout, Stop, Then, times, tagged}
+use Rattle.frame_fields.specs.FrameLayouts.{Layout, Stop, Then, times, tagged}
 
 abbrev pub a_byte : Layout → Layout
 a_byte more = Then (AByte (λ _. true)) (λ _. more)

@@ -5,7 +5,7 @@ use Rattle.std.specs.declared.result.Result.{Result}
 use Rattle.frame_fields.specs.declared.ends.ReadEnd.{ReadEnd}
 use Rattle.frame_fields.specs.declared.ends.ReadEnd.TheVariants.{Bad, NoMemory}
 use Rattle.frame_fields.specs.Fields.{Field, Shape, IsValue, NoValue, spelling, spelled}
-use Rattle.frame_fields.specs.Layouts.{Layout, Fits, IsBroken, IsBad}
+use Rattle.frame_fields.specs.FrameLayouts.{Layout, Fits, IsBroken, IsBad}
 
 -- a bad place is told, and want of memory is free
 abbrev pub Blames : (ℕ → Type 0) → ReadEnd → Type 0
@@ -23,11 +23,11 @@ abbrev pub ReadsAll : {X : Type 0} → (X → List Field) → Layout → List �
 ReadsAll fields layout bytes (Ok x) = (bytes ≡ spelled (fields x)) × Fits layout (fields x)
 ReadsAll fields layout bytes (Err end) = Blames (IsBad layout bytes) end
 
--- the same behind a tag: it is the tag of what was read
-abbrev pub ReadsTagged : {X : Type 0} → (X → ℕ) → (X → List Field) → ℕ → Layout → List ℕ → Result X ReadEnd → Type 0
-ReadsTagged tag_of fields_after tag layout bytes (Ok x) =
-    (tag_of x ≡ tag) × (bytes ≡ spelled (fields_after x)) × Fits layout (fields_after x)
-ReadsTagged tag_of fields_after tag layout bytes (Err end) = Blames (IsBad layout bytes) end
+-- the same behind a kind: it is the kind of what was read
+abbrev pub ReadsKind : {X K : Type 0} → (X → K) → (X → List Field) → K → Layout → List ℕ → Result X ReadEnd → Type 0
+ReadsKind kind_of fields_after kind layout bytes (Ok x) =
+    (kind_of x ≡ kind) × (bytes ≡ spelled (fields_after x)) × Fits layout (fields_after x)
+ReadsKind kind_of fields_after kind layout bytes (Err end) = Blames (IsBad layout bytes) end
 
 -- a value of this shape stood at the front, or none does
 abbrev pub Finds : {X : Type 0} → (X → Field) → (X → List ℕ) → Shape → List ℕ → Option X → Type 0

@@ -6,7 +6,7 @@ use Rattle.far_words.specs.declared.stamp.ImageFault.TheVariants as faults
 use Rattle.far_words.specs.declared.stamp.Found.{Found}
 use Rattle.far_words.specs.declared.stamp.Found.TheVariants.{Absent, Broken, Longer, Other, Unfit}
 use Rattle.frame_fields.specs.Fields.{Field, Byte, Word, Long, Digest}
-use Rattle.frame_fields.specs.Layouts.{Layout, Stop, Table, tagged}
+use Rattle.frame_fields.specs.FrameLayouts.{Layout, Stop, Table, tagged}
 use Rattle.frame_fields.specs.Parts.{a_byte, a_word, a_long, a_digest}
 
 abbrev pub stamp : Layout

@@ -2,7 +2,7 @@
 
 ghost use Rattle.std.specs.Prelude.{◌≡◌, [], ◌∷◌, ◌++◌, OnOk};
 ghost use Rattle.frame_fields.specs.Fields.{spelling, Digest, ADigest, IsValue};
-ghost use Rattle.frame_fields.specs.Layouts.{Stop};
+ghost use Rattle.frame_fields.specs.FrameLayouts.{Stop};
 ghost use Rattle.frame_fields.specs.Parts.{a_digest};
 ghost use Rattle.frame_fields.specs.Reads.{Finds};
 ghost use Rattle.frame_fields.specs.Frames.{Extends};

@@ -2,7 +2,7 @@
 
 ghost use Rattle.std.specs.Prelude.{◌≡◌, List, [], ◌++◌};
 ghost use Rattle.frame_fields.specs.Fields.{Field};
-ghost use Rattle.frame_fields.specs.Layouts.{Layout, Stop, both};
+ghost use Rattle.frame_fields.specs.FrameLayouts.{Layout, Stop, both};
 ghost use Rattle.frame_fields.specs.Reads.{Reads, ReadsAll};
 
 use crate::ends::ReadEnd;

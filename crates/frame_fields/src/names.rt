@@ -3,7 +3,7 @@
 ghost use Rattle.std.specs.Prelude.{◌≡◌, [], ◌∷◌, ◌++◌, OnOk};
 ghost use Rattle.far_words.specs.Paths.{is_path, is_part};
 ghost use Rattle.frame_fields.specs.Fields.{spelling, Byte, Text, After, AByte, AText, AnAfter, IsValue};
-ghost use Rattle.frame_fields.specs.Layouts.{Stop};
+ghost use Rattle.frame_fields.specs.FrameLayouts.{Stop};
 ghost use Rattle.frame_fields.specs.Parts.{a_path, a_part, part_fields, an_after, a_kind, is_kind, kind_byte};
 ghost use Rattle.frame_fields.specs.Reads.{Finds};
 ghost use Rattle.frame_fields.specs.Frames.{Extends};

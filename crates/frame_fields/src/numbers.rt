@@ -2,7 +2,7 @@
 
 ghost use Rattle.std.specs.Prelude.{◌≡◌, [], ◌∷◌, ◌++◌, true, OnOk};
 ghost use Rattle.frame_fields.specs.Fields.{spelling, spelled, AByte, AWord, ALong, Byte, Word, Long};
-ghost use Rattle.frame_fields.specs.Layouts.{Stop, Fits};
+ghost use Rattle.frame_fields.specs.FrameLayouts.{Stop, Fits};
 ghost use Rattle.frame_fields.specs.Parts.{a_byte, a_word, a_long, optional_long, optional_fields};
 ghost use Rattle.frame_fields.specs.Reads.{Finds};
 ghost use Rattle.frame_fields.specs.Frames.{Extends};

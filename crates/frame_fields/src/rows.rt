@@ -2,7 +2,7 @@
 
 ghost use Rattle.std.specs.Prelude.{◌≡◌, ◌^◌, ◌<◌, [], ◌∷◌, ◌++◌, length, IfOk, OnOk};
 ghost use Rattle.frame_fields.specs.Fields.{Word, spelled};
-ghost use Rattle.frame_fields.specs.Layouts.{Fits, times};
+ghost use Rattle.frame_fields.specs.FrameLayouts.{Fits, times};
 ghost use Rattle.frame_fields.specs.Parts.{rows_of, fields_of_rows, place_fields};
 ghost use Rattle.frame_fields.specs.Parts as parts;
 ghost use Rattle.frame_fields.specs.Reads.{Reads};

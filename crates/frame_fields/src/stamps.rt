@@ -2,7 +2,7 @@
 
 ghost use Rattle.std.specs.Prelude.{◌≡◌, ◌++◌, OnOk};
 ghost use Rattle.frame_fields.specs.Fields.{spelled};
-ghost use Rattle.frame_fields.specs.Layouts.{Fits};
+ghost use Rattle.frame_fields.specs.FrameLayouts.{Fits};
 ghost use Rattle.frame_fields.specs.Stamps;
 ghost use Rattle.frame_fields.specs.Stamps.{stamp_fields, fault_fields, found_fields};
 ghost use Rattle.frame_fields.specs.Frames.{Extends};

@@ -1,8 +1,8 @@
 //! Bytes behind their count.
 
 ghost use Rattle.std.specs.Prelude.{◌≡◌, ◌^◌, ◌<◌, [], ◌∷◌, ◌++◌, length, true, OnOk};
-ghost use Rattle.frame_fields.specs.Fields.{spelling, Text, AText};
-ghost use Rattle.frame_fields.specs.Layouts.{Stop};
+ghost use Rattle.frame_fields.specs.Fields.{spelling, Text, AText, IsValue};
+ghost use Rattle.frame_fields.specs.FrameLayouts.{Stop};
 ghost use Rattle.frame_fields.specs.Parts.{a_blob};
 ghost use Rattle.frame_fields.specs.Reads.{Finds};
 ghost use Rattle.frame_fields.specs.Frames.{Extends};
@@ -48,6 +48,7 @@ impl Framed for Blob {
 pub fn put_text(out: &mut Blob, bytes: &[u8]) -> Result<(), AllocError>
     requires { length bytes.now < 2 ^ 32 }
     ensures put { OnOk result (out.new ≡ out.old ++ spelling (Text bytes.now)) }
+    ensures value { IsValue (AText (λ _. true)) (Text bytes.now) }
     ensures kept { Extends out.old out.new }
 {
     out.extend_from_slice(&(bytes.len() as u32).to_be_bytes())?;

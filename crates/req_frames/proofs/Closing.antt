@@ -2,8 +2,8 @@
 use Rattle.std.proofs.Common.{◌≡◌, ℕ, ◌+◌, ◌-◌, ◌≤◌, List, ◌++◌, length, take, drop, sym, ap, ◌∙◌, append_assoc, append-nil, arith}
 use Rattle.std.proofs.lemmas.List.{take_at, drop_at, take_all, drop_all, length-append, length-take, length-drop, drop-drop}
 use Rattle.frame_fields.specs.Fields.{Field, Word, spelling, spelled}
-use Rattle.frame_fields.specs.Layouts.{Table, tagged}
-use Rattle.frame_fields.specs.Frames.{frame_of, AreShort, FitsFrame, IsPut}
+use Rattle.frame_fields.specs.FrameLayouts.{Table, tagged}
+use Rattle.frame_fields.specs.Frames.{frame_of, AreShort, IsFrameBody, IsPut}
 use Rattle.frame_fields.proofs.FieldLaws.{text_spelled, length_word}
 use borrow.Rule.Slice.PartMut.{post_of}
 
@@ -38,7 +38,7 @@ closes out slice word spelled at room same written long_four =
 -- what is put between a frame's four bytes for its length and the length itself
 pub record IsOpen (table : Table) (first put : List ℕ) (fields : List Field) : Type 0 where
   pub put_is : put ≡ (first ++ spelling (Word 0)) ++ spelled fields
-  pub fits : FitsFrame table fields
+  pub fits : IsFrameBody table fields
 
 pub opened : (table : Table) (first word put : List ℕ) (fields : List Field) → word ≡ first ++ spelling (Word 0)
     → IsPut (tagged table) fields word put → AreShort fields → IsOpen table first put fields

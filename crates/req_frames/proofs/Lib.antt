@@ -1,7 +1,7 @@
 -- a request is told by its fields, and so is a reply
 pub mod Values
--- what was read behind a kind
-pub mod Bodies
+-- no two kinds have one byte
+pub mod KindLaws
 -- what decoding answers
 pub mod Decoded
 -- a frame's length, written last

@@ -15,8 +15,13 @@ use Rattle.far_words.specs.declared.stamp.ImageFault.{ImageFault}
 use Rattle.far_words.specs.declared.stamp.ImageFault.TheVariants as faults
 use Rattle.far_words.specs.declared.stamp.Found.{Found}
 use Rattle.far_words.specs.declared.stamp.Found.TheVariants as founds
-use Rattle.req_frames.specs.Requests.{request_fields}
-use Rattle.req_frames.specs.Replies.{reply_fields}
+use Rattle.req_frames.specs.declared.kinds.RequestKind.{RequestKind}
+use Rattle.req_frames.specs.declared.kinds.RequestKind.TheVariants as kinds
+use Rattle.req_frames.specs.declared.kinds.ReplyKind.{ReplyKind}
+use Rattle.req_frames.specs.declared.kinds.ReplyKind.TheVariants as told_kinds
+use Rattle.req_frames.specs.Requests.{request_kind, request_rest, request_fields}
+use Rattle.req_frames.specs.Replies.{reply_kind, reply_rest, reply_fields}
+use Rattle.req_frames.proofs.KindLaws.{request_kind_one, reply_kind_one}
 
 -- the value in a field
 abbrev number_of : Field → ℕ
@@ -64,38 +69,36 @@ kind_again Table = refl
 
 -- ---- requests
 
-abbrev request_of : List Field → Request
-request_of fs =
-    choice (
-    (1, asked.Hello (number_at fs 1))
-    ∷ (2, asked.Make (text_at fs 1) (kind_at fs 2) (number_at fs 3))
-    ∷ (3, asked.DropTree (text_at fs 1))
-    ∷ (4, asked.List (text_at fs 1) (after_at fs 2))
-    ∷ (5, asked.Top (after_at fs 1))
-    ∷ (6, asked.Renew (text_at fs 1) (number_at fs 2))
-    ∷ (7, asked.Lease (text_at fs 1))
-    ∷ (8, asked.Append (text_at fs 1) (text_at fs 2))
-    ∷ (9, asked.Read (text_at fs 1) (number_at fs 2) (number_at fs 3))
-    ∷ (10, asked.Length (text_at fs 1))
-    ∷ (11, asked.Push (text_at fs 1) (text_at fs 2))
-    ∷ (12, asked.Pop (text_at fs 1))
-    ∷ (13, asked.Front (text_at fs 1))
-    ∷ (14, asked.Count (text_at fs 1))
-    ∷ (15, asked.Put (text_at fs 1) (text_at fs 2) (text_at fs 3))
-    ∷ (16, asked.Get (text_at fs 1) (text_at fs 2))
-    ∷ (17, asked.Remove (text_at fs 1) (text_at fs 2))
-    ∷ (18, asked.Park (text_at fs 1))
-    ∷ (19, asked.Load (text_at fs 1))
-    ∷ (20, asked.Map (text_at fs 1) (number_at fs 2))
-    ∷ (21, asked.ReadSlice (number_at fs 1) (number_at fs 2) (number_at fs 3) (number_at fs 4))
-    ∷ (22, asked.GetSlice (number_at fs 1) (number_at fs 2) (text_at fs 3))
-    ∷ (23, asked.PutSlice (number_at fs 1) (number_at fs 2) (text_at fs 3) (text_at fs 4))
-    ∷ (24, asked.Report (number_at fs 1))
-    ∷ (25, asked.Share)
-    ∷ []
-    ) asked.Bye (number_at fs 0)
+-- what a kind and the fields that follow it tell
+abbrev request_of : RequestKind → List Field → Request
+request_of kinds.Hello fs = asked.Hello (number_at fs 0)
+request_of kinds.Make fs = asked.Make (text_at fs 0) (kind_at fs 1) (number_at fs 2)
+request_of kinds.DropTree fs = asked.DropTree (text_at fs 0)
+request_of kinds.List fs = asked.List (text_at fs 0) (after_at fs 1)
+request_of kinds.Top fs = asked.Top (after_at fs 0)
+request_of kinds.Renew fs = asked.Renew (text_at fs 0) (number_at fs 1)
+request_of kinds.Lease fs = asked.Lease (text_at fs 0)
+request_of kinds.Append fs = asked.Append (text_at fs 0) (text_at fs 1)
+request_of kinds.Read fs = asked.Read (text_at fs 0) (number_at fs 1) (number_at fs 2)
+request_of kinds.Length fs = asked.Length (text_at fs 0)
+request_of kinds.Push fs = asked.Push (text_at fs 0) (text_at fs 1)
+request_of kinds.Pop fs = asked.Pop (text_at fs 0)
+request_of kinds.Front fs = asked.Front (text_at fs 0)
+request_of kinds.Count fs = asked.Count (text_at fs 0)
+request_of kinds.Put fs = asked.Put (text_at fs 0) (text_at fs 1) (text_at fs 2)
+request_of kinds.Get fs = asked.Get (text_at fs 0) (text_at fs 1)
+request_of kinds.Remove fs = asked.Remove (text_at fs 0) (text_at fs 1)
+request_of kinds.Park fs = asked.Park (text_at fs 0)
+request_of kinds.Load fs = asked.Load (text_at fs 0)
+request_of kinds.Map fs = asked.Map (text_at fs 0) (number_at fs 1)
+request_of kinds.ReadSlice fs = asked.ReadSlice (number_at fs 0) (number_at fs 1) (number_at fs 2) (number_at fs 3)
+request_of kinds.GetSlice fs = asked.GetSlice (number_at fs 0) (number_at fs 1) (text_at fs 2)
+request_of kinds.PutSlice fs = asked.PutSlice (number_at fs 0) (number_at fs 1) (text_at fs 2) (text_at fs 3)
+request_of kinds.Report fs = asked.Report (number_at fs 0)
+request_of kinds.Share fs = asked.Share
+request_of kinds.Bye fs = asked.Bye
 
-request_again : (r : Request) → request_of (request_fields r) ≡ r
+request_again : (r : Request) → request_of (request_kind r) (request_rest r) ≡ r
 request_again (asked.Hello user) = refl
 request_again (asked.Make path kind span) = ap (λ (k : Kind). asked.Make path k span) (kind_again kind)
 request_again (asked.DropTree path) = refl
@@ -124,7 +127,9 @@ request_again asked.Share = refl
 request_again asked.Bye = refl
 
 pub request_one : (r s : Request) → request_fields r ≡ request_fields s → r ≡ s
-request_one r s same = sym (request_again r) ∙ ap request_of same ∙ request_again s
+request_one r s same =
+    let kind = request_kind_one (request_kind r) (request_kind s) (ap (λ (fs : List Field). number_at fs 0) same) in
+    sym (request_again r) ∙ (λ i. request_of (kind i) (drop 1 (same i))) ∙ request_again s
 
 -- ---- parts of replies
 
@@ -195,32 +200,30 @@ found_again (founds.Unfit place) = refl
 
 -- ---- replies
 
-abbrev reply_of : List Field → Reply
-reply_of fs =
-    choice (
-    (64, told.Done)
-    ∷ (65, told.Number (number_at fs 1))
-    ∷ (66, told.Bytes (text_at fs 1))
-    ∷ (67, told.Item (text_at fs 1))
-    ∷ (68, told.Nothing)
-    ∷ (69, told.Names (parts_of (drop 2 fs)))
-    ∷ (70, told.Places (places_of (drop 2 fs)))
-    ∷ (71, told.Share (number_at fs 1) (number_at fs 2) (number_at fs 3))
-    ∷ (80, told.TooLong (number_at fs 1))
-    ∷ (81, told.Absent)
-    ∷ (82, told.WrongKind)
-    ∷ (83, told.Exists)
-    ∷ (84, told.Exhausted (number_at fs 1) (number_at fs 2) (number_at fs 3))
-    ∷ (85, told.StoreFault)
-    ∷ (86, told.Damaged (stamp_of (drop 1 fs)) (found_of (drop 5 fs)))
-    ∷ (87, told.Stale (number_at fs 1) (optional_of (drop 2 fs)))
-    ∷ (88, told.AbsentUser (number_at fs 1))
-    ∷ (89, told.TooMuch (number_at fs 1))
-    ∷ (90, told.NoMemory)
-    ∷ []
-    ) (told.Full (number_at fs 1)) (number_at fs 0)
+-- what a kind and the fields that follow it tell
+abbrev reply_of : ReplyKind → List Field → Reply
+reply_of told_kinds.Done fs = told.Done
+reply_of told_kinds.Number fs = told.Number (number_at fs 0)
+reply_of told_kinds.Bytes fs = told.Bytes (text_at fs 0)
+reply_of told_kinds.Item fs = told.Item (text_at fs 0)
+reply_of told_kinds.Nothing fs = told.Nothing
+reply_of told_kinds.Names fs = told.Names (parts_of (drop 1 fs))
+reply_of told_kinds.Places fs = told.Places (places_of (drop 1 fs))
+reply_of told_kinds.Share fs = told.Share (number_at fs 0) (number_at fs 1) (number_at fs 2)
+reply_of told_kinds.TooLong fs = told.TooLong (number_at fs 0)
+reply_of told_kinds.Absent fs = told.Absent
+reply_of told_kinds.WrongKind fs = told.WrongKind
+reply_of told_kinds.Exists fs = told.Exists
+reply_of told_kinds.Exhausted fs = told.Exhausted (number_at fs 0) (number_at fs 1) (number_at fs 2)
+reply_of told_kinds.StoreFault fs = told.StoreFault
+reply_of told_kinds.Damaged fs = told.Damaged (stamp_of fs) (found_of (drop 4 fs))
+reply_of told_kinds.Stale fs = told.Stale (number_at fs 0) (optional_of (drop 1 fs))
+reply_of told_kinds.AbsentUser fs = told.AbsentUser (number_at fs 0)
+reply_of told_kinds.TooMuch fs = told.TooMuch (number_at fs 0)
+reply_of told_kinds.NoMemory fs = told.NoMemory
+reply_of told_kinds.Full fs = told.Full (number_at fs 0)
 
-reply_again : (r : Reply) → reply_of (reply_fields r) ≡ r
+reply_again : (r : Reply) → reply_of (reply_kind r) (reply_rest r) ≡ r
 reply_again told.Done = refl
 reply_again (told.Number n) = refl
 reply_again (told.Bytes bytes) = refl
@@ -243,4 +246,6 @@ reply_again told.NoMemory = refl
 reply_again (told.Full n) = refl
 
 pub reply_one : (r s : Reply) → reply_fields r ≡ reply_fields s → r ≡ s
-reply_one r s same = sym (reply_again r) ∙ ap reply_of same ∙ reply_again s
+reply_one r s same =
+    let kind = reply_kind_one (reply_kind r) (reply_kind s) (ap (λ (fs : List Field). number_at fs 0) same) in
+    sym (reply_again r) ∙ (λ i. reply_of (kind i) (drop 1 (same i))) ∙ reply_again s

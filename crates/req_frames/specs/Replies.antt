@@ -1,101 +1,158 @@
 -- The table of replies.
-use Rattle.std.specs.Prelude.{ℕ, List, [], ◌∷◌, ◌++◌, length}
+use Rattle.std.specs.Prelude.{ℕ, ◌<◌, ◌^◌, Bool, true, false, List, [], ◌∷◌, ◌++◌, length}
 use Rattle.std.specs.declared.result.Result.{Result}
 use Rattle.far_asks.specs.declared.frames.Reply.{Reply}
 use Rattle.far_asks.specs.declared.frames.Reply.TheVariants.{Done, Number, Bytes, Item, Nothing, Names, Places, Share, TooLong, Absent, WrongKind, Exists, Exhausted, StoreFault, Damaged, Stale, AbsentUser, TooMuch, NoMemory, Full}
+use Rattle.req_frames.specs.declared.kinds.ReplyKind.{ReplyKind}
+use Rattle.req_frames.specs.declared.kinds.ReplyKind.TheVariants as kinds
 use Rattle.frame_fields.specs.declared.ends.ReadEnd.{ReadEnd}
 use Rattle.frame_fields.specs.Fields.{Field, Byte, Word, Long, Text}
-use Rattle.frame_fields.specs.Layouts.{Layout, Stop, both, Table}
-use Rattle.frame_fields.specs.Reads.{ReadsTagged}
+use Rattle.frame_fields.specs.FrameLayouts.{Layout, Stop, both, Table, row_of}
+use Rattle.frame_fields.specs.Reads.{ReadsKind}
 use Rattle.frame_fields.specs.Parts.{a_word, a_long, a_blob, a_part, part_fields, rows_of, fields_of_rows, place, place_fields, optional_long, optional_fields}
 use Rattle.frame_fields.specs.Stamps.{stamp, stamp_fields, found, found_fields}
-use Rattle.frame_fields.specs.Frames.{frame_of, FitsFrame, IsBadFrame}
+use Rattle.frame_fields.specs.Frames.{frame_of, IsFrameBody, IsBadFrame}
+
+-- the byte of a kind
+abbrev pub reply_byte : ReplyKind → ℕ
+reply_byte kinds.Done = 64
+reply_byte kinds.Number = 65
+reply_byte kinds.Bytes = 66
+reply_byte kinds.Item = 67
+reply_byte kinds.Nothing = 68
+reply_byte kinds.Names = 69
+reply_byte kinds.Places = 70
+reply_byte kinds.Share = 71
+reply_byte kinds.TooLong = 80
+reply_byte kinds.Absent = 81
+reply_byte kinds.WrongKind = 82
+reply_byte kinds.Exists = 83
+reply_byte kinds.Exhausted = 84
+reply_byte kinds.StoreFault = 85
+reply_byte kinds.Damaged = 86
+reply_byte kinds.Stale = 87
+reply_byte kinds.AbsentUser = 88
+reply_byte kinds.TooMuch = 89
+reply_byte kinds.NoMemory = 90
+reply_byte kinds.Full = 91
+
+abbrev row : ReplyKind → Layout → ℕ × Layout
+row kind layout = (reply_byte kind, layout)
 
 -- the kinds, and what follows each
 abbrev pub replies : Table
 replies =
-    (64, Stop)  -- Done
-    ∷ (65, a_long Stop)  -- Number
-    ∷ (66, a_blob Stop)  -- Bytes
-    ∷ (67, a_blob Stop)  -- Item
-    ∷ (68, Stop)  -- Nothing
-    ∷ (69, rows_of (a_part Stop))  -- Names
-    ∷ (70, rows_of place)  -- Places
-    ∷ (71, a_long (a_long (a_long Stop)))  -- Share
-    ∷ (80, a_long Stop)  -- TooLong
-    ∷ (81, Stop)  -- Absent
-    ∷ (82, Stop)  -- WrongKind
-    ∷ (83, Stop)  -- Exists
-    ∷ (84, a_long (a_long (a_long Stop)))  -- Exhausted
-    ∷ (85, Stop)  -- StoreFault
-    ∷ (86, both stamp found)  -- Damaged
-    ∷ (87, a_long optional_long)  -- Stale
-    ∷ (88, a_word Stop)  -- AbsentUser
-    ∷ (89, a_long Stop)  -- TooMuch
-    ∷ (90, Stop)  -- NoMemory
-    ∷ (91, a_long Stop)  -- Full
+    row kinds.Done Stop
+    ∷ row kinds.Number (a_long Stop)
+    ∷ row kinds.Bytes (a_blob Stop)
+    ∷ row kinds.Item (a_blob Stop)
+    ∷ row kinds.Nothing Stop
+    ∷ row kinds.Names (rows_of (a_part Stop))
+    ∷ row kinds.Places (rows_of place)
+    ∷ row kinds.Share (a_long (a_long (a_long Stop)))
+    ∷ row kinds.TooLong (a_long Stop)
+    ∷ row kinds.Absent Stop
+    ∷ row kinds.WrongKind Stop
+    ∷ row kinds.Exists Stop
+    ∷ row kinds.Exhausted (a_long (a_long (a_long Stop)))
+    ∷ row kinds.StoreFault Stop
+    ∷ row kinds.Damaged (both stamp found)
+    ∷ row kinds.Stale (a_long optional_long)
+    ∷ row kinds.AbsentUser (a_word Stop)
+    ∷ row kinds.TooMuch (a_long Stop)
+    ∷ row kinds.NoMemory Stop
+    ∷ row kinds.Full (a_long Stop)
     ∷ []
 
--- the kind of a reply, and the fields that follow it
-abbrev pub reply_kind : Reply → ℕ
-reply_kind Done = 64
-reply_kind (Number number) = 65
-reply_kind (Bytes bytes) = 66
-reply_kind (Item item) = 67
-reply_kind Nothing = 68
-reply_kind (Names names) = 69
-reply_kind (Places places) = 70
-reply_kind (Share demand credits given) = 71
-reply_kind (TooLong limit) = 80
-reply_kind Absent = 81
-reply_kind WrongKind = 82
-reply_kind Exists = 83
-reply_kind (Exhausted need used granted) = 84
-reply_kind StoreFault = 85
-reply_kind (Damaged kept found) = 86
-reply_kind (Stale asked now) = 87
-reply_kind (AbsentUser users) = 88
-reply_kind (TooMuch limit) = 89
-reply_kind NoMemory = 90
-reply_kind (Full limit) = 91
+-- what follows a kind
+abbrev pub reply_layout : ReplyKind → Layout
+reply_layout kind = row_of replies (reply_byte kind)
 
-abbrev pub fields_after : Reply → List Field
-fields_after Done = []
-fields_after (Number number) = Long number ∷ []
-fields_after (Bytes bytes) = Text bytes ∷ []
-fields_after (Item item) = Text item ∷ []
-fields_after Nothing = []
-fields_after (Names names) = Word (length names) ∷ fields_of_rows part_fields names
-fields_after (Places places) = Word (length places) ∷ fields_of_rows place_fields places
-fields_after (Share demand credits given) = Long demand ∷ Long credits ∷ Long given ∷ []
-fields_after (TooLong limit) = Long limit ∷ []
-fields_after Absent = []
-fields_after WrongKind = []
-fields_after Exists = []
-fields_after (Exhausted need used granted) = Long need ∷ Long used ∷ Long granted ∷ []
-fields_after StoreFault = []
-fields_after (Damaged kept found) = stamp_fields kept ++ found_fields found
-fields_after (Stale asked now) = Long asked ∷ optional_fields now
-fields_after (AbsentUser users) = Word users ∷ []
-fields_after (TooMuch limit) = Long limit ∷ []
-fields_after NoMemory = []
-fields_after (Full limit) = Long limit ∷ []
+-- nothing follows the kind
+abbrev pub is_alone : ReplyKind → Bool
+is_alone kinds.Done = true
+is_alone kinds.Nothing = true
+is_alone kinds.Absent = true
+is_alone kinds.WrongKind = true
+is_alone kinds.Exists = true
+is_alone kinds.StoreFault = true
+is_alone kinds.NoMemory = true
+is_alone kind = false
+
+-- a number follows the kind
+abbrev pub is_number : ReplyKind → Bool
+is_number kinds.Number = true
+is_number kinds.TooLong = true
+is_number kinds.TooMuch = true
+is_number kinds.Full = true
+is_number kind = false
+
+-- the kind of a reply, and the fields that follow it
+abbrev pub reply_kind : Reply → ReplyKind
+reply_kind Done = kinds.Done
+reply_kind (Number number) = kinds.Number
+reply_kind (Bytes bytes) = kinds.Bytes
+reply_kind (Item item) = kinds.Item
+reply_kind Nothing = kinds.Nothing
+reply_kind (Names names) = kinds.Names
+reply_kind (Places places) = kinds.Places
+reply_kind (Share demand credits given) = kinds.Share
+reply_kind (TooLong limit) = kinds.TooLong
+reply_kind Absent = kinds.Absent
+reply_kind WrongKind = kinds.WrongKind
+reply_kind Exists = kinds.Exists
+reply_kind (Exhausted need used granted) = kinds.Exhausted
+reply_kind StoreFault = kinds.StoreFault
+reply_kind (Damaged kept found) = kinds.Damaged
+reply_kind (Stale asked now) = kinds.Stale
+reply_kind (AbsentUser users) = kinds.AbsentUser
+reply_kind (TooMuch limit) = kinds.TooMuch
+reply_kind NoMemory = kinds.NoMemory
+reply_kind (Full limit) = kinds.Full
+
+abbrev pub reply_rest : Reply → List Field
+reply_rest Done = []
+reply_rest (Number number) = Long number ∷ []
+reply_rest (Bytes bytes) = Text bytes ∷ []
+reply_rest (Item item) = Text item ∷ []
+reply_rest Nothing = []
+reply_rest (Names names) = Word (length names) ∷ fields_of_rows part_fields names
+reply_rest (Places places) = Word (length places) ∷ fields_of_rows place_fields places
+reply_rest (Share demand credits given) = Long demand ∷ Long credits ∷ Long given ∷ []
+reply_rest (TooLong limit) = Long limit ∷ []
+reply_rest Absent = []
+reply_rest WrongKind = []
+reply_rest Exists = []
+reply_rest (Exhausted need used granted) = Long need ∷ Long used ∷ Long granted ∷ []
+reply_rest StoreFault = []
+reply_rest (Damaged kept found) = stamp_fields kept ++ found_fields found
+reply_rest (Stale asked now) = Long asked ∷ optional_fields now
+reply_rest (AbsentUser users) = Word users ∷ []
+reply_rest (TooMuch limit) = Long limit ∷ []
+reply_rest NoMemory = []
+reply_rest (Full limit) = Long limit ∷ []
 
 abbrev pub reply_fields : Reply → List Field
-reply_fields reply = Byte (reply_kind reply) ∷ fields_after reply
+reply_fields reply = Byte (reply_byte (reply_kind reply)) ∷ reply_rest reply
+
+-- a count has room for its rows
+abbrev pub HasFewRows : Reply → Type 0
+HasFewRows (Names names) = length names < 2 ^ 32
+HasFewRows (Places places) = length places < 2 ^ 32
+HasFewRows reply = Unit {0}
 
 -- the one frame of a reply
 unfoldable pub reply_frame : Reply → List ℕ
 reply_frame reply = frame_of (reply_fields reply)
 
 -- the reply has a frame: each field is within its grammar, and they are no more bytes than a frame may have
-abbrev pub IsReply : Reply → Type 0
-IsReply reply = FitsFrame replies (reply_fields reply)
+abbrev pub HasReplyFrame : Reply → Type 0
+HasReplyFrame reply = IsFrameBody replies (reply_fields reply)
 
 -- the frame is that of no reply, and this is its bad place
 abbrev pub IsBadReply : List ℕ → ℕ → Type 0
 IsBadReply = IsBadFrame replies
 
 -- what reading the fields that follow a kind answers
-abbrev pub ReadsReply : ℕ → Layout → List ℕ → Result Reply ReadEnd → Type 0
-ReadsReply = ReadsTagged reply_kind fields_after
+abbrev pub ReadsReply : ReplyKind → List ℕ → Result Reply ReadEnd → Type 0
+ReadsReply kind = ReadsKind reply_kind reply_rest kind (reply_layout kind)

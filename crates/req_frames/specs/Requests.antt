@@ -1,119 +1,177 @@
 -- The table of requests.
-use Rattle.std.specs.Prelude.{ℕ, List, [], ◌∷◌}
+use Rattle.std.specs.Prelude.{ℕ, Bool, true, false, List, [], ◌∷◌}
 use Rattle.std.specs.declared.result.Result.{Result}
 use Rattle.far_asks.specs.declared.frames.Request.{Request}
 use Rattle.far_asks.specs.declared.frames.Request.TheVariants.{Hello, Make, DropTree, Top, Renew, Lease, Append, Read, Length, Push, Pop, Front, Count, Put, Get, Remove, Park, Load, Map, ReadSlice, GetSlice, PutSlice, Report, Share, Bye}
 use Rattle.far_asks.specs.declared.frames.Request.TheVariants as asked
+use Rattle.req_frames.specs.declared.kinds.RequestKind.{RequestKind}
+use Rattle.req_frames.specs.declared.kinds.RequestKind.TheVariants as kinds
 use Rattle.frame_fields.specs.declared.ends.ReadEnd.{ReadEnd}
 use Rattle.frame_fields.specs.Fields.{Field, Byte, Word, Long, Text, After}
-use Rattle.frame_fields.specs.Layouts.{Layout, Stop, Table}
-use Rattle.frame_fields.specs.Reads.{ReadsTagged}
+use Rattle.frame_fields.specs.FrameLayouts.{Layout, Stop, Table, row_of}
+use Rattle.frame_fields.specs.Reads.{ReadsKind}
 use Rattle.frame_fields.specs.Parts.{a_word, a_long, a_blob, a_path, an_after, a_kind, kind_byte}
-use Rattle.frame_fields.specs.Frames.{frame_of, FitsFrame, IsBadFrame}
+use Rattle.frame_fields.specs.Frames.{frame_of, IsFrameBody, IsBadFrame}
+
+-- the byte of a kind
+abbrev pub request_byte : RequestKind → ℕ
+request_byte kinds.Hello = 1
+request_byte kinds.Make = 2
+request_byte kinds.DropTree = 3
+request_byte kinds.List = 4
+request_byte kinds.Top = 5
+request_byte kinds.Renew = 6
+request_byte kinds.Lease = 7
+request_byte kinds.Append = 8
+request_byte kinds.Read = 9
+request_byte kinds.Length = 10
+request_byte kinds.Push = 11
+request_byte kinds.Pop = 12
+request_byte kinds.Front = 13
+request_byte kinds.Count = 14
+request_byte kinds.Put = 15
+request_byte kinds.Get = 16
+request_byte kinds.Remove = 17
+request_byte kinds.Park = 18
+request_byte kinds.Load = 19
+request_byte kinds.Map = 20
+request_byte kinds.ReadSlice = 21
+request_byte kinds.GetSlice = 22
+request_byte kinds.PutSlice = 23
+request_byte kinds.Report = 24
+request_byte kinds.Share = 25
+request_byte kinds.Bye = 26
+
+abbrev row : RequestKind → Layout → ℕ × Layout
+row kind layout = (request_byte kind, layout)
 
 -- the kinds, and what follows each
 abbrev pub requests : Table
 requests =
-    (1, a_word Stop)  -- Hello
-    ∷ (2, a_path (a_kind (a_long Stop)))  -- Make
-    ∷ (3, a_path Stop)  -- DropTree
-    ∷ (4, a_path (an_after Stop))  -- List
-    ∷ (5, an_after Stop)  -- Top
-    ∷ (6, a_path (a_long Stop))  -- Renew
-    ∷ (7, a_path Stop)  -- Lease
-    ∷ (8, a_path (a_blob Stop))  -- Append
-    ∷ (9, a_path (a_long (a_word Stop)))  -- Read
-    ∷ (10, a_path Stop)  -- Length
-    ∷ (11, a_path (a_blob Stop))  -- Push
-    ∷ (12, a_path Stop)  -- Pop
-    ∷ (13, a_path Stop)  -- Front
-    ∷ (14, a_path Stop)  -- Count
-    ∷ (15, a_path (a_blob (a_blob Stop)))  -- Put
-    ∷ (16, a_path (a_blob Stop))  -- Get
-    ∷ (17, a_path (a_blob Stop))  -- Remove
-    ∷ (18, a_path Stop)  -- Park
-    ∷ (19, a_path Stop)  -- Load
-    ∷ (20, a_path (a_long Stop))  -- Map
-    ∷ (21, a_word (a_long (a_word (a_word Stop))))  -- ReadSlice
-    ∷ (22, a_word (a_long (a_blob Stop)))  -- GetSlice
-    ∷ (23, a_word (a_long (a_blob (a_blob Stop))))  -- PutSlice
-    ∷ (24, a_long Stop)  -- Report
-    ∷ (25, Stop)  -- Share
-    ∷ (26, Stop)  -- Bye
+    row kinds.Hello (a_word Stop)
+    ∷ row kinds.Make (a_path (a_kind (a_long Stop)))
+    ∷ row kinds.DropTree (a_path Stop)
+    ∷ row kinds.List (a_path (an_after Stop))
+    ∷ row kinds.Top (an_after Stop)
+    ∷ row kinds.Renew (a_path (a_long Stop))
+    ∷ row kinds.Lease (a_path Stop)
+    ∷ row kinds.Append (a_path (a_blob Stop))
+    ∷ row kinds.Read (a_path (a_long (a_word Stop)))
+    ∷ row kinds.Length (a_path Stop)
+    ∷ row kinds.Push (a_path (a_blob Stop))
+    ∷ row kinds.Pop (a_path Stop)
+    ∷ row kinds.Front (a_path Stop)
+    ∷ row kinds.Count (a_path Stop)
+    ∷ row kinds.Put (a_path (a_blob (a_blob Stop)))
+    ∷ row kinds.Get (a_path (a_blob Stop))
+    ∷ row kinds.Remove (a_path (a_blob Stop))
+    ∷ row kinds.Park (a_path Stop)
+    ∷ row kinds.Load (a_path Stop)
+    ∷ row kinds.Map (a_path (a_long Stop))
+    ∷ row kinds.ReadSlice (a_word (a_long (a_word (a_word Stop))))
+    ∷ row kinds.GetSlice (a_word (a_long (a_blob Stop)))
+    ∷ row kinds.PutSlice (a_word (a_long (a_blob (a_blob Stop))))
+    ∷ row kinds.Report (a_long Stop)
+    ∷ row kinds.Share Stop
+    ∷ row kinds.Bye Stop
     ∷ []
 
--- the kind of a request, and the fields that follow it
-abbrev pub request_kind : Request → ℕ
-request_kind (Hello user) = 1
-request_kind (Make path kind span) = 2
-request_kind (DropTree path) = 3
-request_kind (asked.List path after) = 4
-request_kind (Top after) = 5
-request_kind (Renew path span) = 6
-request_kind (Lease path) = 7
-request_kind (Append path bytes) = 8
-request_kind (Read path from len) = 9
-request_kind (Length path) = 10
-request_kind (Push path item) = 11
-request_kind (Pop path) = 12
-request_kind (Front path) = 13
-request_kind (Count path) = 14
-request_kind (Put path key value) = 15
-request_kind (Get path key) = 16
-request_kind (Remove path key) = 17
-request_kind (Park path) = 18
-request_kind (Load path) = 19
-request_kind (Map path from) = 20
-request_kind (ReadSlice slice number from len) = 21
-request_kind (GetSlice slice number key) = 22
-request_kind (PutSlice slice number key value) = 23
-request_kind (Report demand) = 24
-request_kind Share = 25
-request_kind Bye = 26
+-- what follows a kind
+abbrev pub request_layout : RequestKind → Layout
+request_layout kind = row_of requests (request_byte kind)
 
-abbrev pub fields_after : Request → List Field
-fields_after (Hello user) = Word user ∷ []
-fields_after (Make path kind span) = Text path ∷ Byte (kind_byte kind) ∷ Long span ∷ []
-fields_after (DropTree path) = Text path ∷ []
-fields_after (asked.List path after) = Text path ∷ After after ∷ []
-fields_after (Top after) = After after ∷ []
-fields_after (Renew path span) = Text path ∷ Long span ∷ []
-fields_after (Lease path) = Text path ∷ []
-fields_after (Append path bytes) = Text path ∷ Text bytes ∷ []
-fields_after (Read path from len) = Text path ∷ Long from ∷ Word len ∷ []
-fields_after (Length path) = Text path ∷ []
-fields_after (Push path item) = Text path ∷ Text item ∷ []
-fields_after (Pop path) = Text path ∷ []
-fields_after (Front path) = Text path ∷ []
-fields_after (Count path) = Text path ∷ []
-fields_after (Put path key value) = Text path ∷ Text key ∷ Text value ∷ []
-fields_after (Get path key) = Text path ∷ Text key ∷ []
-fields_after (Remove path key) = Text path ∷ Text key ∷ []
-fields_after (Park path) = Text path ∷ []
-fields_after (Load path) = Text path ∷ []
-fields_after (Map path from) = Text path ∷ Long from ∷ []
-fields_after (ReadSlice slice number from len) = Word slice ∷ Long number ∷ Word from ∷ Word len ∷ []
-fields_after (GetSlice slice number key) = Word slice ∷ Long number ∷ Text key ∷ []
-fields_after (PutSlice slice number key value) = Word slice ∷ Long number ∷ Text key ∷ Text value ∷ []
-fields_after (Report demand) = Long demand ∷ []
-fields_after Share = []
-fields_after Bye = []
+-- a name and no more follows the kind
+abbrev pub is_named : RequestKind → Bool
+is_named kinds.DropTree = true
+is_named kinds.Lease = true
+is_named kinds.Length = true
+is_named kinds.Pop = true
+is_named kinds.Front = true
+is_named kinds.Count = true
+is_named kinds.Park = true
+is_named kinds.Load = true
+is_named kind = false
+
+-- a name and bytes follow the kind
+abbrev pub is_named_blob : RequestKind → Bool
+is_named_blob kinds.Append = true
+is_named_blob kinds.Push = true
+is_named_blob kinds.Get = true
+is_named_blob kinds.Remove = true
+is_named_blob kind = false
+
+-- the kind of a request, and the fields that follow it
+abbrev pub request_kind : Request → RequestKind
+request_kind (Hello user) = kinds.Hello
+request_kind (Make path kind span) = kinds.Make
+request_kind (DropTree path) = kinds.DropTree
+request_kind (asked.List path after) = kinds.List
+request_kind (Top after) = kinds.Top
+request_kind (Renew path span) = kinds.Renew
+request_kind (Lease path) = kinds.Lease
+request_kind (Append path bytes) = kinds.Append
+request_kind (Read path from len) = kinds.Read
+request_kind (Length path) = kinds.Length
+request_kind (Push path item) = kinds.Push
+request_kind (Pop path) = kinds.Pop
+request_kind (Front path) = kinds.Front
+request_kind (Count path) = kinds.Count
+request_kind (Put path key value) = kinds.Put
+request_kind (Get path key) = kinds.Get
+request_kind (Remove path key) = kinds.Remove
+request_kind (Park path) = kinds.Park
+request_kind (Load path) = kinds.Load
+request_kind (Map path from) = kinds.Map
+request_kind (ReadSlice slice number from len) = kinds.ReadSlice
+request_kind (GetSlice slice number key) = kinds.GetSlice
+request_kind (PutSlice slice number key value) = kinds.PutSlice
+request_kind (Report demand) = kinds.Report
+request_kind Share = kinds.Share
+request_kind Bye = kinds.Bye
+
+abbrev pub request_rest : Request → List Field
+request_rest (Hello user) = Word user ∷ []
+request_rest (Make path kind span) = Text path ∷ Byte (kind_byte kind) ∷ Long span ∷ []
+request_rest (DropTree path) = Text path ∷ []
+request_rest (asked.List path after) = Text path ∷ After after ∷ []
+request_rest (Top after) = After after ∷ []
+request_rest (Renew path span) = Text path ∷ Long span ∷ []
+request_rest (Lease path) = Text path ∷ []
+request_rest (Append path bytes) = Text path ∷ Text bytes ∷ []
+request_rest (Read path from len) = Text path ∷ Long from ∷ Word len ∷ []
+request_rest (Length path) = Text path ∷ []
+request_rest (Push path item) = Text path ∷ Text item ∷ []
+request_rest (Pop path) = Text path ∷ []
+request_rest (Front path) = Text path ∷ []
+request_rest (Count path) = Text path ∷ []
+request_rest (Put path key value) = Text path ∷ Text key ∷ Text value ∷ []
+request_rest (Get path key) = Text path ∷ Text key ∷ []
+request_rest (Remove path key) = Text path ∷ Text key ∷ []
+request_rest (Park path) = Text path ∷ []
+request_rest (Load path) = Text path ∷ []
+request_rest (Map path from) = Text path ∷ Long from ∷ []
+request_rest (ReadSlice slice number from len) = Word slice ∷ Long number ∷ Word from ∷ Word len ∷ []
+request_rest (GetSlice slice number key) = Word slice ∷ Long number ∷ Text key ∷ []
+request_rest (PutSlice slice number key value) = Word slice ∷ Long number ∷ Text key ∷ Text value ∷ []
+request_rest (Report demand) = Long demand ∷ []
+request_rest Share = []
+request_rest Bye = []
 
 abbrev pub request_fields : Request → List Field
-request_fields request = Byte (request_kind request) ∷ fields_after request
+request_fields request = Byte (request_byte (request_kind request)) ∷ request_rest request
 
 -- the one frame of a request
 unfoldable pub request_frame : Request → List ℕ
 request_frame request = frame_of (request_fields request)
 
 -- the request has a frame: each field is within its grammar, and they are no more bytes than a frame may have
-abbrev pub IsRequest : Request → Type 0
-IsRequest request = FitsFrame requests (request_fields request)
+abbrev pub HasRequestFrame : Request → Type 0
+HasRequestFrame request = IsFrameBody requests (request_fields request)
 
 -- the frame is that of no request, and this is its bad place
 abbrev pub IsBadRequest : List ℕ → ℕ → Type 0
 IsBadRequest = IsBadFrame requests
 
 -- what reading the fields that follow a kind answers
-abbrev pub ReadsRequest : ℕ → Layout → List ℕ → Result Request ReadEnd → Type 0
-ReadsRequest = ReadsTagged request_kind fields_after
+abbrev pub ReadsRequest : RequestKind → List ℕ → Result Request ReadEnd → Type 0
+ReadsRequest kind = ReadsKind request_kind request_rest kind (request_layout kind)

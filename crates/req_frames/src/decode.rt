@@ -5,8 +5,8 @@ ghost use Rattle.far_asks.specs.declared.frames.Request.{Request as Asked};
 ghost use Rattle.far_asks.specs.declared.frames.Reply.{Reply as Told};
 ghost use Rattle.frame_fields.specs.Reads.{Blames};
 ghost use Rattle.frame_fields.specs.Frames.{IsFrame};
-ghost use Rattle.req_frames.specs.Requests.{request_frame, IsRequest, IsBadRequest};
-ghost use Rattle.req_frames.specs.Replies.{reply_frame, IsReply, IsBadReply};
+ghost use Rattle.req_frames.specs.Requests.{request_frame, HasRequestFrame, IsBadRequest};
+ghost use Rattle.req_frames.specs.Replies.{reply_frame, HasReplyFrame, IsBadReply};
 ghost use Rattle.req_frames.specs.Answers.{IsDecoded, IsOneOf, IsBadAt, IsEndOf};
 
 use crate::replies::read_reply;
@@ -58,10 +58,10 @@ pub fn decode_request(alloc: Global, frame: &[u8]) -> Result<Request, FrameEnd>
     requires { IsFrame frame.now }
 
     // What is decoded is spelled so, and a place that is told is the bad one.
-    ensures decoded { IsDecoded request_frame IsRequest IsBadRequest frame.now result }
+    ensures decoded { IsDecoded request_frame HasRequestFrame IsBadRequest frame.now result }
 
     // The frame of a request is decoded to it, and a bad place is told, but for want of memory.
-    ensures only { (request : Asked) → IsRequest request → frame.now ≡ request_frame request → IsOneOf request result }
+    ensures only { (request : Asked) → HasRequestFrame request → frame.now ≡ request_frame request → IsOneOf request result }
     ensures bad { (place : ℕ) → IsBadRequest frame.now place → IsBadAt place result }
 {
     match read_request(alloc, &frame[4..]) {
@@ -77,10 +77,10 @@ pub fn decode_reply(alloc: Global, frame: &[u8]) -> Result<Reply, FrameEnd>
     requires { IsFrame frame.now }
 
     // What is decoded is spelled so, and a place that is told is the bad one.
-    ensures decoded { IsDecoded reply_frame IsReply IsBadReply frame.now result }
+    ensures decoded { IsDecoded reply_frame HasReplyFrame IsBadReply frame.now result }
 
     // The frame of a reply is decoded to it, and a bad place is told, but for want of memory.
-    ensures only { (reply : Told) → IsReply reply → frame.now ≡ reply_frame reply → IsOneOf reply result }
+    ensures only { (reply : Told) → HasReplyFrame reply → frame.now ≡ reply_frame reply → IsOneOf reply result }
     ensures bad { (place : ℕ) → IsBadReply frame.now place → IsBadAt place result }
 {
     match read_reply(alloc, &frame[4..]) {

@@ -4,8 +4,8 @@ ghost use Rattle.std.specs.Prelude.{◌≡◌, ◌+◌, ◌-◌, ◌≤◌, ◌+
 ghost use Rattle.frame_fields.specs.Fields.{Word, spelling};
 ghost use Rattle.frame_fields.specs.Frames.{AreShort, Extends};
 ghost use Rattle.req_frames.specs.Answers.{HasOneReading};
-ghost use Rattle.req_frames.specs.Requests.{request_frame, request_fields, IsRequest};
-ghost use Rattle.req_frames.specs.Replies.{reply_frame, reply_fields, IsReply};
+ghost use Rattle.req_frames.specs.Requests.{request_frame, request_fields, HasRequestFrame};
+ghost use Rattle.req_frames.specs.Replies.{reply_frame, reply_fields, HasReplyFrame};
 
 use crate::put_replies::{self, put_reply};
 use crate::put_requests::{self, put_request};
@@ -32,7 +32,7 @@ pub fn append_request(out: &mut Blob, request: &Request) -> Result<(), AllocErro
     // What stood in front stays there, also at an `Err`.
     ensures kept { Extends out.old out.new }
     // So it is decoded to the same request again.
-    ensures within { OnOk result (IsRequest request.now) }
+    ensures within { OnOk result (HasRequestFrame request.now) }
 {
     out.reserve(put_requests::room_for(request))?;
     let at = out.items().len();
@@ -49,7 +49,7 @@ pub fn append_reply(out: &mut Blob, reply: &Reply) -> Result<(), AllocError>
     // What stood in front stays there, also at an `Err`.
     ensures kept { Extends out.old out.new }
     // So it is decoded to the same reply again.
-    ensures within { OnOk result (IsReply reply.now) }
+    ensures within { OnOk result (HasReplyFrame reply.now) }
 {
     out.reserve(put_replies::room_for(reply))?;
     let at = out.items().len();
@@ -64,10 +64,10 @@ pub fn append_reply(out: &mut Blob, reply: &Reply) -> Result<(), AllocError>
 pub fn encode_request(request: &Request, out: &mut Blob) -> Result<(), AllocError>
     requires { AreShort (request_fields request.now) }
     ensures put { OnOk result (out.new ≡ request_frame request.now) }
-    ensures within { OnOk result (IsRequest request.now) }
+    ensures within { OnOk result (HasRequestFrame request.now) }
 
     // Bytes are frames of one list of requests alone.
-    ensures one { HasOneReading request_frame IsRequest }
+    ensures one { HasOneReading request_frame HasRequestFrame }
 {
     out.clear();
     append_request(out, request)
@@ -78,10 +78,10 @@ pub fn encode_request(request: &Request, out: &mut Blob) -> Result<(), AllocErro
 pub fn encode_reply(reply: &Reply, out: &mut Blob) -> Result<(), AllocError>
     requires { AreShort (reply_fields reply.now) }
     ensures put { OnOk result (out.new ≡ reply_frame reply.now) }
-    ensures within { OnOk result (IsReply reply.now) }
+    ensures within { OnOk result (HasReplyFrame reply.now) }
 
     // Bytes are frames of one list of replies alone.
-    ensures one { HasOneReading reply_frame IsReply }
+    ensures one { HasOneReading reply_frame HasReplyFrame }
 {
     out.clear();
     append_reply(out, reply)

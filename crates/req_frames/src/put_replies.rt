@@ -1,16 +1,13 @@
 //! The bodies of replies, written.
 
-ghost use Rattle.std.specs.Prelude.{[], ◌∷◌, ◌++◌, length, OnOk};
-ghost use Rattle.frame_fields.specs.Fields.{Byte, Word, Long, Text};
-ghost use Rattle.frame_fields.specs.Layouts.{Stop, both, tagged};
-ghost use Rattle.frame_fields.specs.Parts.{a_byte, a_word, a_long, a_blob, a_part, part_fields, rows_of, fields_of_rows, place, place_fields, optional_long, optional_fields};
-ghost use Rattle.frame_fields.specs.Stamps;
-ghost use Rattle.frame_fields.specs.Stamps.{stamp_fields, found_fields};
-ghost use Rattle.frame_fields.specs.Frames.{AreShort, Extends, IsPut};
-ghost use Rattle.req_frames.specs.Replies.{reply_fields, replies};
+ghost use Rattle.std.specs.Prelude.{OnOk};
+ghost use Rattle.frame_fields.specs.FrameLayouts.{tagged};
+ghost use Rattle.frame_fields.specs.Frames.{AreShort, HaveShortTexts, Extends, IsPut};
+ghost use Rattle.req_frames.specs.Replies.{replies, reply_kind, reply_layout, HasFewRows, reply_rest, reply_fields};
 
-use far_asks::frames::{Names, Places, Reply};
-use far_words::{Blob, Found, Stamp};
+use crate::kinds::ReplyKind;
+use far_words::Blob;
+use far_asks::frames::Reply;
 use frame_fields::{
     put_byte, put_counted, put_found, put_long, put_optional, put_stamp, put_text, put_word,
 };
@@ -25,89 +22,53 @@ const ROOM_OF_PLACE: usize = 20;
 /// Room for all fields of a reply but its blobs and rows: the longest are those of `Damaged`.
 const ROOM_BESIDE: usize = 128;
 
-/// A kind and a number.
-fn put_number(out: &mut Blob, kind: u8, number: u64) -> Result<(), AllocError>
-    ensures put { OnOk result (IsPut (a_byte (a_long Stop)) (Byte kind ∷ Long number ∷ []) out.old out.new) }
-    ensures kept { Extends out.old out.new }
-{
-    put_byte(out, kind)?;
-    put_long(out, number)
-}
-
-/// A kind and three numbers.
-fn put_numbers(
-    out: &mut Blob,
-    kind: u8,
-    first: u64,
-    second: u64,
-    third: u64,
-) -> Result<(), AllocError>
-    ensures put { OnOk result (IsPut (a_byte (a_long (a_long (a_long Stop))))
-        (Byte kind ∷ Long first ∷ Long second ∷ Long third ∷ []) out.old out.new) }
-    ensures kept { Extends out.old out.new }
-{
-    put_byte(out, kind)?;
-    put_long(out, first)?;
-    put_long(out, second)?;
-    put_long(out, third)
-}
-
-/// A kind and bytes.
-fn put_blob(out: &mut Blob, kind: u8, bytes: &Blob) -> Result<(), AllocError>
-    requires { AreShort (Byte kind ∷ Text bytes.now ∷ []) }
-    ensures put { OnOk result (IsPut (a_byte (a_blob Stop)) (Byte kind ∷ Text bytes.now ∷ []) out.old out.new) }
-    ensures kept { Extends out.old out.new }
-{
-    put_byte(out, kind)?;
-    put_text(out, bytes.items())
-}
-
-fn put_names(out: &mut Blob, names: &Names) -> Result<(), AllocError>
-    requires { AreShort (Byte 69 ∷ Word (length names.now) ∷ fields_of_rows part_fields names.now) }
-    ensures put { OnOk result (IsPut (a_byte (rows_of (a_part Stop)))
-        (Byte 69 ∷ Word (length names.now) ∷ fields_of_rows part_fields names.now) out.old out.new) }
-    ensures kept { Extends out.old out.new }
-{
-    put_byte(out, 69)?;
-    put_counted(out, names.items())
-}
-
-fn put_places(out: &mut Blob, places: &Places) -> Result<(), AllocError>
-    requires { AreShort (Byte 70 ∷ Word (length places.now) ∷ fields_of_rows place_fields places.now) }
-    ensures put { OnOk result (IsPut (a_byte (rows_of place))
-        (Byte 70 ∷ Word (length places.now) ∷ fields_of_rows place_fields places.now) out.old out.new) }
-    ensures kept { Extends out.old out.new }
-{
-    put_byte(out, 70)?;
-    put_counted(out, places.items())
-}
-
-fn put_damaged(out: &mut Blob, kept: &Stamp, found: &Found) -> Result<(), AllocError>
-    ensures put { OnOk result (IsPut (a_byte (both Stamps.stamp Stamps.found))
-        (Byte 86 ∷ stamp_fields kept.now ++ found_fields found.now) out.old out.new) }
-    ensures kept { Extends out.old out.new }
-{
-    put_byte(out, 86)?;
-    put_stamp(out, kept)?;
-    put_found(out, found)
-}
-
-fn put_stale(out: &mut Blob, asked: u64, now: Option<u64>) -> Result<(), AllocError>
+/// Adds the fields that follow the kind of a reply at the end.
+fn put_rest(out: &mut Blob, reply: &Reply) -> Result<(), AllocError>
+    requires texts { HaveShortTexts (reply_rest reply.now) }
+    requires rows { HasFewRows reply.now }
     ensures put { OnOk result
-        (IsPut (a_byte (a_long optional_long)) (Byte 87 ∷ Long asked ∷ optional_fields now) out.old out.new) }
+        (IsPut (reply_layout (reply_kind reply.now)) (reply_rest reply.now) out.old out.new) }
     ensures kept { Extends out.old out.new }
 {
-    put_byte(out, 87)?;
-    put_long(out, asked)?;
-    put_optional(out, now)
-}
-
-fn put_absent_user(out: &mut Blob, users: u32) -> Result<(), AllocError>
-    ensures put { OnOk result (IsPut (a_byte (a_word Stop)) (Byte 88 ∷ Word users ∷ []) out.old out.new) }
-    ensures kept { Extends out.old out.new }
-{
-    put_byte(out, 88)?;
-    put_word(out, users)
+    match reply {
+        Reply::Done
+        | Reply::Nothing
+        | Reply::Absent
+        | Reply::WrongKind
+        | Reply::Exists
+        | Reply::StoreFault
+        | Reply::NoMemory => Ok(()),
+        Reply::Number(number)
+        | Reply::TooLong { limit: number }
+        | Reply::TooMuch { limit: number }
+        | Reply::Full { limit: number } => put_long(out, *number),
+        Reply::AbsentUser { users } => put_word(out, *users),
+        Reply::Bytes(bytes) | Reply::Item(bytes) => put_text(out, bytes.items()),
+        Reply::Names(names) => put_counted(out, names.items()),
+        Reply::Places(places) => put_counted(out, places.items()),
+        Reply::Share {
+            demand: first,
+            credits: second,
+            given: third,
+        }
+        | Reply::Exhausted {
+            need: first,
+            used: second,
+            granted: third,
+        } => {
+            put_long(out, *first)?;
+            put_long(out, *second)?;
+            put_long(out, *third)
+        }
+        Reply::Damaged { kept, found } => {
+            put_stamp(out, kept)?;
+            put_found(out, found)
+        }
+        Reply::Stale { asked, now } => {
+            put_long(out, *asked)?;
+            put_optional(out, *now)
+        }
+    }
 }
 
 /// Adds the kind of a reply and its fields at the end.
@@ -116,36 +77,8 @@ pub fn put_reply(out: &mut Blob, reply: &Reply) -> Result<(), AllocError>
     ensures put { OnOk result (IsPut (tagged replies) (reply_fields reply.now) out.old out.new) }
     ensures kept { Extends out.old out.new }
 {
-    match reply {
-        Reply::Done => put_byte(out, 64),
-        Reply::Number(number) => put_number(out, 65, *number),
-        Reply::Bytes(bytes) => put_blob(out, 66, bytes),
-        Reply::Item(item) => put_blob(out, 67, item),
-        Reply::Nothing => put_byte(out, 68),
-        Reply::Names(names) => put_names(out, names),
-        Reply::Places(places) => put_places(out, places),
-        Reply::Share {
-            demand,
-            credits,
-            given,
-        } => put_numbers(out, 71, *demand, *credits, *given),
-        Reply::TooLong { limit } => put_number(out, 80, *limit),
-        Reply::Absent => put_byte(out, 81),
-        Reply::WrongKind => put_byte(out, 82),
-        Reply::Exists => put_byte(out, 83),
-        Reply::Exhausted {
-            need,
-            used,
-            granted,
-        } => put_numbers(out, 84, *need, *used, *granted),
-        Reply::StoreFault => put_byte(out, 85),
-        Reply::Damaged { kept, found } => put_damaged(out, kept, found),
-        Reply::Stale { asked, now } => put_stale(out, *asked, *now),
-        Reply::AbsentUser { users } => put_absent_user(out, *users),
-        Reply::TooMuch { limit } => put_number(out, 89, *limit),
-        Reply::NoMemory => put_byte(out, 90),
-        Reply::Full { limit } => put_number(out, 91, *limit),
-    }
+    put_byte(out, ReplyKind::of(reply).byte())?;
+    put_rest(out, reply)
 }
 
 /// About how many bytes the frame of a reply takes, so that they are reserved at once. It may be any number.

@@ -1,153 +1,94 @@
 //! The bodies of replies: a kind, and the fields of that kind.
 
-ghost use Rattle.std.specs.Prelude.{◌≡◌, []};
-ghost use Rattle.frame_fields.specs.Layouts.{Stop, both, tagged};
-ghost use Rattle.frame_fields.specs.Parts.{a_word, a_long, a_blob, a_part, rows_of, place, optional_long};
-ghost use Rattle.frame_fields.specs.Stamps.{stamp, found};
-ghost use Rattle.frame_fields.specs.Reads.{ReadsAll};
-ghost use Rattle.req_frames.specs.Replies.{ReadsReply, replies, reply_kind, reply_fields, fields_after};
+ghost use Rattle.std.specs.Prelude.{◌≡◌, [], ◌∷◌, IsTrue};
+ghost use Rattle.frame_fields.specs.Fields.{Byte, Long, AByte};
+ghost use Rattle.frame_fields.specs.FrameLayouts.{is_in, tagged};
+ghost use Rattle.frame_fields.specs.Reads.{Finds, ReadsAll};
+ghost use Rattle.req_frames.specs.Replies.{ReadsReply, replies, reply_byte, reply_kind, is_alone, is_number, reply_rest, reply_fields};
 
-use far_asks::frames::{Place, Reply};
-use far_words::{Blob, Found, Part, Stamp};
+use crate::kinds::ReplyKind as Kind;
+use far_asks::frames::Reply;
 use frame_fields::{ReadEnd, Rows, byte_at, read_all};
 use std::alloc::Global;
 
-/// A reply whose kind says all.
-fn alone(alloc: Global, reply: Reply, bytes: &[u8]) -> Result<Reply, ReadEnd>
-    requires { fields_after reply ≡ [] }
-    ensures { ReadsReply (reply_kind reply) Stop bytes.now result }
+/// The kind at the front, and the bytes after it.
+fn kind_at(body: &[u8]) -> Option<(Kind, &[u8])>
+    ensures { Finds (λ x. Byte (reply_byte x.0)) (λ x. x.1.now) (AByte (is_in replies)) body.now result }
 {
-    let () = read_all::<()>(alloc, bytes)?;
-    Ok(reply)
+    let Some((byte, rest)) = byte_at(body) else {
+        return None;
+    };
+    let Some(kind) = Kind::from_byte(byte) else {
+        return None;
+    };
+    Some((kind, rest))
 }
 
-fn number(alloc: Global, bytes: &[u8]) -> Result<Reply, ReadEnd>
-    ensures { ReadsReply 65 (a_long Stop) bytes.now result }
+/// The reply of a kind that says all.
+fn alone(kind: Kind) -> Reply
+    requires { IsTrue (is_alone kind) }
+    ensures kind { reply_kind result ≡ kind }
+    ensures rest { reply_rest result ≡ [] }
 {
-    let (number, ()) = read_all::<(u64, ())>(alloc, bytes)?;
-    Ok(Reply::Number(number))
+    match kind {
+        Kind::Done => Reply::Done,
+        Kind::Nothing => Reply::Nothing,
+        Kind::Absent => Reply::Absent,
+        Kind::WrongKind => Reply::WrongKind,
+        Kind::Exists => Reply::Exists,
+        Kind::StoreFault => Reply::StoreFault,
+        _ => Reply::NoMemory,
+    }
 }
 
-fn bytes(alloc: Global, bytes: &[u8]) -> Result<Reply, ReadEnd>
-    ensures { ReadsReply 66 (a_blob Stop) bytes.now result }
+/// The reply of a kind that a number follows.
+fn of_number(kind: Kind, number: u64) -> Reply
+    requires { IsTrue (is_number kind) }
+    ensures kind { reply_kind result ≡ kind }
+    ensures rest { reply_rest result ≡ Long number ∷ [] }
 {
-    let (bytes, ()) = read_all::<(Blob, ())>(alloc, bytes)?;
-    Ok(Reply::Bytes(bytes))
+    match kind {
+        Kind::Number => Reply::Number(number),
+        Kind::TooLong => Reply::TooLong { limit: number },
+        Kind::TooMuch => Reply::TooMuch { limit: number },
+        _ => Reply::Full { limit: number },
+    }
 }
 
-fn item(alloc: Global, bytes: &[u8]) -> Result<Reply, ReadEnd>
-    ensures { ReadsReply 67 (a_blob Stop) bytes.now result }
+/// The reply of a kind, of which these bytes are the fields.
+fn reply_of(kind: Kind, alloc: Global, bytes: &[u8]) -> Result<Reply, ReadEnd>
+    ensures { ReadsReply kind bytes.now result }
 {
-    let (item, ()) = read_all::<(Blob, ())>(alloc, bytes)?;
-    Ok(Reply::Item(item))
-}
-
-fn names(alloc: Global, bytes: &[u8]) -> Result<Reply, ReadEnd>
-    ensures { ReadsReply 69 (rows_of (a_part Stop)) bytes.now result }
-{
-    let names = read_all::<Rows<Part>>(alloc, bytes)?;
-    Ok(Reply::Names(names.items))
-}
-
-fn places(alloc: Global, bytes: &[u8]) -> Result<Reply, ReadEnd>
-    ensures { ReadsReply 70 (rows_of place) bytes.now result }
-{
-    let places = read_all::<Rows<Place>>(alloc, bytes)?;
-    Ok(Reply::Places(places.items))
-}
-
-fn share(alloc: Global, bytes: &[u8]) -> Result<Reply, ReadEnd>
-    ensures { ReadsReply 71 (a_long (a_long (a_long Stop))) bytes.now result }
-{
-    let (demand, (credits, (given, ()))) = read_all::<(u64, (u64, (u64, ())))>(alloc, bytes)?;
-    Ok(Reply::Share {
-        demand,
-        credits,
-        given,
-    })
-}
-
-fn too_long(alloc: Global, bytes: &[u8]) -> Result<Reply, ReadEnd>
-    ensures { ReadsReply 80 (a_long Stop) bytes.now result }
-{
-    let (limit, ()) = read_all::<(u64, ())>(alloc, bytes)?;
-    Ok(Reply::TooLong { limit })
-}
-
-fn exhausted(alloc: Global, bytes: &[u8]) -> Result<Reply, ReadEnd>
-    ensures { ReadsReply 84 (a_long (a_long (a_long Stop))) bytes.now result }
-{
-    let (need, (used, (granted, ()))) = read_all::<(u64, (u64, (u64, ())))>(alloc, bytes)?;
-    Ok(Reply::Exhausted {
-        need,
-        used,
-        granted,
-    })
-}
-
-fn damaged(alloc: Global, bytes: &[u8]) -> Result<Reply, ReadEnd>
-    ensures { ReadsReply 86 (both stamp found) bytes.now result }
-{
-    let (kept, found) = read_all::<(Stamp, Found)>(alloc, bytes)?;
-    Ok(Reply::Damaged { kept, found })
-}
-
-fn stale(alloc: Global, bytes: &[u8]) -> Result<Reply, ReadEnd>
-    ensures { ReadsReply 87 (a_long optional_long) bytes.now result }
-{
-    let (asked, now) = read_all::<(u64, Option<u64>)>(alloc, bytes)?;
-    Ok(Reply::Stale { asked, now })
-}
-
-fn absent_user(alloc: Global, bytes: &[u8]) -> Result<Reply, ReadEnd>
-    ensures { ReadsReply 88 (a_word Stop) bytes.now result }
-{
-    let (users, ()) = read_all::<(u32, ())>(alloc, bytes)?;
-    Ok(Reply::AbsentUser { users })
-}
-
-fn too_much(alloc: Global, bytes: &[u8]) -> Result<Reply, ReadEnd>
-    ensures { ReadsReply 89 (a_long Stop) bytes.now result }
-{
-    let (limit, ()) = read_all::<(u64, ())>(alloc, bytes)?;
-    Ok(Reply::TooMuch { limit })
-}
-
-fn full(alloc: Global, bytes: &[u8]) -> Result<Reply, ReadEnd>
-    ensures { ReadsReply 91 (a_long Stop) bytes.now result }
-{
-    let (limit, ()) = read_all::<(u64, ())>(alloc, bytes)?;
-    Ok(Reply::Full { limit })
+    match kind {
+        Kind::Done
+        | Kind::Nothing
+        | Kind::Absent
+        | Kind::WrongKind
+        | Kind::Exists
+        | Kind::StoreFault
+        | Kind::NoMemory => read_as!(alloc, bytes, () => alone(kind)),
+        Kind::Number
+        | Kind::TooLong
+        | Kind::TooMuch
+        | Kind::Full => read_as!(alloc, bytes, (number, ()) => of_number(kind, number)),
+        Kind::Bytes => read_as!(alloc, bytes, (bytes, ()) => Reply::Bytes(bytes)),
+        Kind::Item => read_as!(alloc, bytes, (item, ()) => Reply::Item(item)),
+        Kind::Names => read_as!(alloc, bytes, Rows { items } => Reply::Names(items)),
+        Kind::Places => read_as!(alloc, bytes, Rows { items } => Reply::Places(items)),
+        Kind::Share => read_as!(alloc, bytes, (demand, (credits, (given, ()))) => Reply::Share { demand, credits, given }),
+        Kind::Exhausted => read_as!(alloc, bytes, (need, (used, (granted, ()))) => Reply::Exhausted { need, used, granted }),
+        Kind::Damaged => read_as!(alloc, bytes, (kept, found) => Reply::Damaged { kept, found }),
+        Kind::Stale => read_as!(alloc, bytes, (asked, now) => Reply::Stale { asked, now }),
+        Kind::AbsentUser => read_as!(alloc, bytes, (users, ()) => Reply::AbsentUser { users }),
+    }
 }
 
 /// The reply that a frame's body is.
 pub fn read_reply(alloc: Global, body: &[u8]) -> Result<Reply, ReadEnd>
     ensures { ReadsAll reply_fields (tagged replies) body.now result }
 {
-    let Some((kind, rest)) = byte_at(body) else {
+    let Some((kind, rest)) = kind_at(body) else {
         return Err(ReadEnd::Bad { left: body.len() });
     };
-    match kind {
-        64 => alone(alloc, Reply::Done, rest),
-        65 => number(alloc, rest),
-        66 => bytes(alloc, rest),
-        67 => item(alloc, rest),
-        68 => alone(alloc, Reply::Nothing, rest),
-        69 => names(alloc, rest),
-        70 => places(alloc, rest),
-        71 => share(alloc, rest),
-        80 => too_long(alloc, rest),
-        81 => alone(alloc, Reply::Absent, rest),
-        82 => alone(alloc, Reply::WrongKind, rest),
-        83 => alone(alloc, Reply::Exists, rest),
-        84 => exhausted(alloc, rest),
-        85 => alone(alloc, Reply::StoreFault, rest),
-        86 => damaged(alloc, rest),
-        87 => stale(alloc, rest),
-        88 => absent_user(alloc, rest),
-        89 => too_much(alloc, rest),
-        90 => alone(alloc, Reply::NoMemory, rest),
-        91 => full(alloc, rest),
-        _ => Err(ReadEnd::Bad { left: body.len() }),
-    }
+    reply_of(kind, alloc, rest)
 }

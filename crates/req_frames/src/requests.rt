@@ -1,245 +1,102 @@
 //! The bodies of requests: a kind, and the fields of that kind.
 
-ghost use Rattle.frame_fields.specs.Layouts.{Stop, tagged};
-ghost use Rattle.frame_fields.specs.Parts.{a_word, a_long, a_blob, a_path, an_after, a_kind};
-ghost use Rattle.frame_fields.specs.Reads.{ReadsAll};
-ghost use Rattle.req_frames.specs.Requests.{ReadsRequest, requests, request_fields};
+ghost use Rattle.std.specs.Prelude.{◌≡◌, [], ◌∷◌, IsTrue};
+ghost use Rattle.frame_fields.specs.Fields.{Byte, Text, AByte};
+ghost use Rattle.frame_fields.specs.FrameLayouts.{is_in, tagged};
+ghost use Rattle.frame_fields.specs.Reads.{Finds, ReadsAll};
+ghost use Rattle.req_frames.specs.Requests.{ReadsRequest, requests, request_byte, request_kind, is_named, is_named_blob, request_rest, request_fields};
 
-use far_asks::frames::{Kind, Request};
-use far_words::{Blob, Part, Path};
+use crate::kinds::RequestKind as Kind;
+use far_asks::frames::Request;
+use far_words::{Blob, Path};
 use frame_fields::{ReadEnd, byte_at, read_all};
 use std::alloc::Global;
 
-fn hello(alloc: Global, bytes: &[u8]) -> Result<Request, ReadEnd>
-    ensures { ReadsRequest 1 (a_word Stop) bytes.now result }
+/// The kind at the front, and the bytes after it.
+fn kind_at(body: &[u8]) -> Option<(Kind, &[u8])>
+    ensures { Finds (λ x. Byte (request_byte x.0)) (λ x. x.1.now) (AByte (is_in requests)) body.now result }
 {
-    let (user, ()) = read_all::<(u32, ())>(alloc, bytes)?;
-    Ok(Request::Hello { user })
+    let Some((byte, rest)) = byte_at(body) else {
+        return None;
+    };
+    let Some(kind) = Kind::from_byte(byte) else {
+        return None;
+    };
+    Some((kind, rest))
 }
 
-fn make(alloc: Global, bytes: &[u8]) -> Result<Request, ReadEnd>
-    ensures { ReadsRequest 2 (a_path (a_kind (a_long Stop))) bytes.now result }
+/// The request of a kind that a name alone follows.
+fn named(kind: Kind, path: Path) -> Request
+    requires { IsTrue (is_named kind) }
+    ensures kind { request_kind result ≡ kind }
+    ensures rest { request_rest result ≡ Text path ∷ [] }
 {
-    let (path, (kind, (span, ()))) = read_all::<(Path, (Kind, (u64, ())))>(alloc, bytes)?;
-    Ok(Request::Make { path, kind, span })
+    match kind {
+        Kind::DropTree => Request::DropTree { path },
+        Kind::Lease => Request::Lease { path },
+        Kind::Length => Request::Length { path },
+        Kind::Pop => Request::Pop { path },
+        Kind::Front => Request::Front { path },
+        Kind::Count => Request::Count { path },
+        Kind::Park => Request::Park { path },
+        _ => Request::Load { path },
+    }
 }
 
-fn drop_tree(alloc: Global, bytes: &[u8]) -> Result<Request, ReadEnd>
-    ensures { ReadsRequest 3 (a_path Stop) bytes.now result }
+/// The request of a kind that a name and bytes follow.
+fn named_blob(kind: Kind, path: Path, bytes: Blob) -> Request
+    requires { IsTrue (is_named_blob kind) }
+    ensures kind { request_kind result ≡ kind }
+    ensures rest { request_rest result ≡ Text path ∷ Text bytes ∷ [] }
 {
-    let (path, ()) = read_all::<(Path, ())>(alloc, bytes)?;
-    Ok(Request::DropTree { path })
+    match kind {
+        Kind::Append => Request::Append { path, bytes },
+        Kind::Push => Request::Push { path, item: bytes },
+        Kind::Get => Request::Get { path, key: bytes },
+        _ => Request::Remove { path, key: bytes },
+    }
 }
 
-fn list(alloc: Global, bytes: &[u8]) -> Result<Request, ReadEnd>
-    ensures { ReadsRequest 4 (a_path (an_after Stop)) bytes.now result }
+/// The request of a kind, of which these bytes are the fields.
+fn request_of(kind: Kind, alloc: Global, bytes: &[u8]) -> Result<Request, ReadEnd>
+    ensures { ReadsRequest kind bytes.now result }
 {
-    let (path, (after, ())) = read_all::<(Path, (Option<Part>, ()))>(alloc, bytes)?;
-    Ok(Request::List { path, after })
-}
-
-fn top(alloc: Global, bytes: &[u8]) -> Result<Request, ReadEnd>
-    ensures { ReadsRequest 5 (an_after Stop) bytes.now result }
-{
-    let (after, ()) = read_all::<(Option<Part>, ())>(alloc, bytes)?;
-    Ok(Request::Top { after })
-}
-
-fn renew(alloc: Global, bytes: &[u8]) -> Result<Request, ReadEnd>
-    ensures { ReadsRequest 6 (a_path (a_long Stop)) bytes.now result }
-{
-    let (path, (span, ())) = read_all::<(Path, (u64, ()))>(alloc, bytes)?;
-    Ok(Request::Renew { path, span })
-}
-
-fn lease(alloc: Global, bytes: &[u8]) -> Result<Request, ReadEnd>
-    ensures { ReadsRequest 7 (a_path Stop) bytes.now result }
-{
-    let (path, ()) = read_all::<(Path, ())>(alloc, bytes)?;
-    Ok(Request::Lease { path })
-}
-
-fn append(alloc: Global, bytes: &[u8]) -> Result<Request, ReadEnd>
-    ensures { ReadsRequest 8 (a_path (a_blob Stop)) bytes.now result }
-{
-    let (path, (bytes, ())) = read_all::<(Path, (Blob, ()))>(alloc, bytes)?;
-    Ok(Request::Append { path, bytes })
-}
-
-fn read(alloc: Global, bytes: &[u8]) -> Result<Request, ReadEnd>
-    ensures { ReadsRequest 9 (a_path (a_long (a_word Stop))) bytes.now result }
-{
-    let (path, (from, (len, ()))) = read_all::<(Path, (u64, (u32, ())))>(alloc, bytes)?;
-    Ok(Request::Read { path, from, len })
-}
-
-fn length(alloc: Global, bytes: &[u8]) -> Result<Request, ReadEnd>
-    ensures { ReadsRequest 10 (a_path Stop) bytes.now result }
-{
-    let (path, ()) = read_all::<(Path, ())>(alloc, bytes)?;
-    Ok(Request::Length { path })
-}
-
-fn push(alloc: Global, bytes: &[u8]) -> Result<Request, ReadEnd>
-    ensures { ReadsRequest 11 (a_path (a_blob Stop)) bytes.now result }
-{
-    let (path, (item, ())) = read_all::<(Path, (Blob, ()))>(alloc, bytes)?;
-    Ok(Request::Push { path, item })
-}
-
-fn pop(alloc: Global, bytes: &[u8]) -> Result<Request, ReadEnd>
-    ensures { ReadsRequest 12 (a_path Stop) bytes.now result }
-{
-    let (path, ()) = read_all::<(Path, ())>(alloc, bytes)?;
-    Ok(Request::Pop { path })
-}
-
-fn front(alloc: Global, bytes: &[u8]) -> Result<Request, ReadEnd>
-    ensures { ReadsRequest 13 (a_path Stop) bytes.now result }
-{
-    let (path, ()) = read_all::<(Path, ())>(alloc, bytes)?;
-    Ok(Request::Front { path })
-}
-
-fn count(alloc: Global, bytes: &[u8]) -> Result<Request, ReadEnd>
-    ensures { ReadsRequest 14 (a_path Stop) bytes.now result }
-{
-    let (path, ()) = read_all::<(Path, ())>(alloc, bytes)?;
-    Ok(Request::Count { path })
-}
-
-fn put(alloc: Global, bytes: &[u8]) -> Result<Request, ReadEnd>
-    ensures { ReadsRequest 15 (a_path (a_blob (a_blob Stop))) bytes.now result }
-{
-    let (path, (key, (value, ()))) = read_all::<(Path, (Blob, (Blob, ())))>(alloc, bytes)?;
-    Ok(Request::Put { path, key, value })
-}
-
-fn get(alloc: Global, bytes: &[u8]) -> Result<Request, ReadEnd>
-    ensures { ReadsRequest 16 (a_path (a_blob Stop)) bytes.now result }
-{
-    let (path, (key, ())) = read_all::<(Path, (Blob, ()))>(alloc, bytes)?;
-    Ok(Request::Get { path, key })
-}
-
-fn remove(alloc: Global, bytes: &[u8]) -> Result<Request, ReadEnd>
-    ensures { ReadsRequest 17 (a_path (a_blob Stop)) bytes.now result }
-{
-    let (path, (key, ())) = read_all::<(Path, (Blob, ()))>(alloc, bytes)?;
-    Ok(Request::Remove { path, key })
-}
-
-fn park(alloc: Global, bytes: &[u8]) -> Result<Request, ReadEnd>
-    ensures { ReadsRequest 18 (a_path Stop) bytes.now result }
-{
-    let (path, ()) = read_all::<(Path, ())>(alloc, bytes)?;
-    Ok(Request::Park { path })
-}
-
-fn load(alloc: Global, bytes: &[u8]) -> Result<Request, ReadEnd>
-    ensures { ReadsRequest 19 (a_path Stop) bytes.now result }
-{
-    let (path, ()) = read_all::<(Path, ())>(alloc, bytes)?;
-    Ok(Request::Load { path })
-}
-
-fn map(alloc: Global, bytes: &[u8]) -> Result<Request, ReadEnd>
-    ensures { ReadsRequest 20 (a_path (a_long Stop)) bytes.now result }
-{
-    let (path, (from, ())) = read_all::<(Path, (u64, ()))>(alloc, bytes)?;
-    Ok(Request::Map { path, from })
-}
-
-fn read_slice(alloc: Global, bytes: &[u8]) -> Result<Request, ReadEnd>
-    ensures { ReadsRequest 21 (a_word (a_long (a_word (a_word Stop)))) bytes.now result }
-{
-    let (slice, (number, (from, (len, ())))) = read_all::<(u32, (u64, (u32, (u32, ()))))>(
-        alloc, bytes,
-    )?;
-    Ok(Request::ReadSlice {
-        slice,
-        number,
-        from,
-        len,
-    })
-}
-
-fn get_slice(alloc: Global, bytes: &[u8]) -> Result<Request, ReadEnd>
-    ensures { ReadsRequest 22 (a_word (a_long (a_blob Stop))) bytes.now result }
-{
-    let (slice, (number, (key, ()))) = read_all::<(u32, (u64, (Blob, ())))>(alloc, bytes)?;
-    Ok(Request::GetSlice { slice, number, key })
-}
-
-fn put_slice(alloc: Global, bytes: &[u8]) -> Result<Request, ReadEnd>
-    ensures { ReadsRequest 23 (a_word (a_long (a_blob (a_blob Stop)))) bytes.now result }
-{
-    let (slice, (number, (key, (value, ())))) = read_all::<(u32, (u64, (Blob, (Blob, ()))))>(
-        alloc, bytes,
-    )?;
-    Ok(Request::PutSlice {
-        slice,
-        number,
-        key,
-        value,
-    })
-}
-
-fn report(alloc: Global, bytes: &[u8]) -> Result<Request, ReadEnd>
-    ensures { ReadsRequest 24 (a_long Stop) bytes.now result }
-{
-    let (demand, ()) = read_all::<(u64, ())>(alloc, bytes)?;
-    Ok(Request::Report { demand })
-}
-
-fn share(alloc: Global, bytes: &[u8]) -> Result<Request, ReadEnd>
-    ensures { ReadsRequest 25 Stop bytes.now result }
-{
-    let () = read_all::<()>(alloc, bytes)?;
-    Ok(Request::Share)
-}
-
-fn bye(alloc: Global, bytes: &[u8]) -> Result<Request, ReadEnd>
-    ensures { ReadsRequest 26 Stop bytes.now result }
-{
-    let () = read_all::<()>(alloc, bytes)?;
-    Ok(Request::Bye)
+    match kind {
+        Kind::Hello => read_as!(alloc, bytes, (user, ()) => Request::Hello { user }),
+        Kind::Make => read_as!(alloc, bytes, (path, (kind, (span, ()))) => Request::Make { path, kind, span }),
+        Kind::DropTree
+        | Kind::Lease
+        | Kind::Length
+        | Kind::Pop
+        | Kind::Front
+        | Kind::Count
+        | Kind::Park
+        | Kind::Load => read_as!(alloc, bytes, (path, ()) => named(kind, path)),
+        Kind::List => read_as!(alloc, bytes, (path, (after, ())) => Request::List { path, after }),
+        Kind::Top => read_as!(alloc, bytes, (after, ()) => Request::Top { after }),
+        Kind::Renew => read_as!(alloc, bytes, (path, (span, ())) => Request::Renew { path, span }),
+        Kind::Append
+        | Kind::Push
+        | Kind::Get
+        | Kind::Remove => read_as!(alloc, bytes, (path, (bytes, ())) => named_blob(kind, path, bytes)),
+        Kind::Read => read_as!(alloc, bytes, (path, (from, (len, ()))) => Request::Read { path, from, len }),
+        Kind::Put => read_as!(alloc, bytes, (path, (key, (value, ()))) => Request::Put { path, key, value }),
+        Kind::Map => read_as!(alloc, bytes, (path, (from, ())) => Request::Map { path, from }),
+        Kind::ReadSlice => read_as!(alloc, bytes, (slice, (number, (from, (len, ())))) => Request::ReadSlice { slice, number, from, len }),
+        Kind::GetSlice => read_as!(alloc, bytes, (slice, (number, (key, ()))) => Request::GetSlice { slice, number, key }),
+        Kind::PutSlice => read_as!(alloc, bytes, (slice, (number, (key, (value, ())))) => Request::PutSlice { slice, number, key, value }),
+        Kind::Report => read_as!(alloc, bytes, (demand, ()) => Request::Report { demand }),
+        Kind::Share => read_as!(alloc, bytes, () => Request::Share),
+        Kind::Bye => read_as!(alloc, bytes, () => Request::Bye),
+    }
 }
 
 /// The request that a frame's body is.
 pub fn read_request(alloc: Global, body: &[u8]) -> Result<Request, ReadEnd>
     ensures { ReadsAll request_fields (tagged requests) body.now result }
 {
-    let Some((kind, rest)) = byte_at(body) else {
+    let Some((kind, rest)) = kind_at(body) else {
         return Err(ReadEnd::Bad { left: body.len() });
     };
-    match kind {
-        1 => hello(alloc, rest),
-        2 => make(alloc, rest),
-        3 => drop_tree(alloc, rest),
-        4 => list(alloc, rest),
-        5 => top(alloc, rest),
-        6 => renew(alloc, rest),
-        7 => lease(alloc, rest),
-        8 => append(alloc, rest),
-        9 => read(alloc, rest),
-        10 => length(alloc, rest),
-        11 => push(alloc, rest),
-        12 => pop(alloc, rest),
-        13 => front(alloc, rest),
-        14 => count(alloc, rest),
-        15 => put(alloc, rest),
-        16 => get(alloc, rest),
-        17 => remove(alloc, rest),
-        18 => park(alloc, rest),
-        19 => load(alloc, rest),
-        20 => map(alloc, rest),
-        21 => read_slice(alloc, rest),
-        22 => get_slice(alloc, rest),
-        23 => put_slice(alloc, rest),
-        24 => report(alloc, rest),
-        25 => share(alloc, rest),
-        26 => bye(alloc, rest),
-        _ => Err(ReadEnd::Bad { left: body.len() }),
-    }
+    request_of(kind, alloc, rest)
 }

@@ -1,6 +1,6 @@
 use Rattle.std.proofs.Common.{◌≡◌, ◌++◌, take}
 use Rattle.frame_fields.specs.Fields.{spelled}
-use Rattle.frame_fields.specs.Layouts.{Fits, times}
+use Rattle.frame_fields.specs.FrameLayouts.{Fits, times}
 use Rattle.frame_fields.specs.Parts.{fields_of_rows}
 use Rattle.frame_fields.proofs.rows.put_rows.Given as goal
 

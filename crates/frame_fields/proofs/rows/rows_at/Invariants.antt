@@ -1,6 +1,6 @@
 use Rattle.std.proofs.Common.{◌≡◌, ◌++◌, length}
 use Rattle.frame_fields.specs.Fields.{spelled}
-use Rattle.frame_fields.specs.Layouts.{Fits, times}
+use Rattle.frame_fields.specs.FrameLayouts.{Fits, times}
 use Rattle.frame_fields.specs.Parts.{fields_of_rows}
 use Rattle.frame_fields.proofs.rows.rows_at.Given as goal
 
