@@ -6,7 +6,8 @@ use Rattle.std.specs.List.{join_with_byte}
 use Rattle.std.proofs.lemmas.Grind.{flat_map-append}
 use Rattle.std.proofs.lemmas.List.{length-append, map_more}
 use Rattle.far_io.proofs.Sends.{flat_map_take}
-use Rattle.script_text.specs.Words.{joined, each_after, ended}
+use Rattle.far_io.specs.Escapes.{escaped}
+use Rattle.script_text.specs.Words.{joined, each_after, ended, IsPutBefore}
 use Rattle.script_text.specs.Damages.{with_colons, low_digit, digest_text}
 
 -- a word, and then the others with this byte before each
@@ -48,10 +49,13 @@ colons_before piece word (part ∷ parts) some =
     let rest = join_with_byte 58 (part ∷ parts) in
     append_assoc piece (word ++ 58 ∷ []) rest ∙ ap (λ t. piece ++ t) (append_assoc word (58 ∷ []) rest)
 
--- the line of a word and an escaped text
-pub ended_text : (word text : List ℕ) → ended (word ∷ text ∷ []) ≡ ((word ++ 32 ∷ []) ++ text) ++ 10 ∷ []
+-- a line that ends with an escaped text, as it was begun and goes on
+pub ended_begun : (piece : List ℕ) (words : List (List ℕ)) (now bytes : List ℕ) (put : IsPutBefore piece words now bytes)
+    → (put.word ++ 32 ∷ []) ++ (escaped bytes ++ 10 ∷ []) ≡ ended words
 unfolding joined
-ended_text word text = ap (λ t. t ++ 10 ∷ []) (sym (append_assoc word (32 ∷ []) text))
+ended_begun piece words now bytes put =
+    let text = escaped bytes in
+    append_assoc put.word (32 ∷ []) (text ++ 10 ∷ []) ∙ sym (append_assoc put.word (32 ∷ text) (10 ∷ [])) ∙ ap ended (sym put.words_are)
 
 regroup : (a b c d e f : List ℕ) → ((((a ++ b) ++ c) ++ d) ++ e) ++ f ≡ a ++ (b ++ (c ++ (d ++ (e ++ f))))
 regroup a b c d e f = simp append_assoc

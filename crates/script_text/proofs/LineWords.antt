@@ -1,59 +1,31 @@
 -- A line is told by its words.
-use Rattle.std.proofs.Common.{◌≡◌, ◌≢◌, ℕ, ◌^◌, ◌<◌, false, cond, Option, Some, None, Result, Ok, Err, List, [], ◌∷◌, drop, refl, sym, ◌∙◌, ap}
+use Rattle.std.proofs.Common.{◌≡◌, ◌≢◌, ℕ, ◌^◌, ◌<◌, cond, Option, Some, None, Result, Ok, Err, List, [], ◌∷◌, drop, refl, sym, ◌∙◌, ap}
 use Rattle.std.specs.Prelude.{IfSome, IfNone, codes}
 use Rattle.std.specs.Result.{IfOk}
 use Rattle.std.specs.Fmt.{decimal}
 use Rattle.std.specs.List.{join_with_byte}
 use Rattle.std.specs.Str.Parse.{digits_value}
 use Rattle.std.proofs.lemmas.Bool.{cond-false}
-use Rattle.far_io.specs.Words.{words_of, HasNoSpace}
-use Rattle.far_io.proofs.Escapes.{escaped_one_word}
-use Rattle.far_io.proofs.WordLaws.{HaveNoSpace, words_of-joined, joined-words_of, decimal_one_word, no_space_by_test}
-use Rattle.far_asks.specs.declared.request.Kind.{Kind}
-use Rattle.far_asks.specs.declared.request.Kind.TheVariants.{File, Queue}
+use Rattle.far_io.specs.Words.{words_of}
+use Rattle.far_io.proofs.WordLaws.{words_of-joined, joined-words_of, decimal_one_word, no_space_by_test}
 use Rattle.far_asks.specs.declared.request.Request.{Request}
-use Rattle.far_asks.specs.declared.request.Request.TheVariants.{Make, Append, Read, Length, Push, Pop, Front, Count, Park, Load}
 use Rattle.script_text.specs.declared.line.ScriptLine.{ScriptLine}
 use Rattle.script_text.specs.declared.line.ScriptLine.TheVariants.{Ask, Draw, Grant}
+use Rattle.script_text.specs.declared.verb.Verb.{Verb}
 use Rattle.script_text.specs.Words.{joined}
-use Rattle.script_text.specs.Lines.{kind_word, request_word, field_words, line_words, line_text, IsRequest, IsScriptLine, IsLineOf, IsNoLineOf, IsNoAsk, IsNoLine}
-use Rattle.script_text.proofs.Asked.{differ}
-use Rattle.script_text.proofs.OneLine.{word_no_space, path_word}
-use Rattle.script_text.proofs.ReadBack.{same, wide, word_at, number_at, number_back, bytes_at, bytes_back}
+use Rattle.script_text.specs.Asked.{asked_of, asked_verb}
+use Rattle.script_text.specs.Lines.{request_word, field_words, line_words, line_text, IsScriptLine, IsLineOf, IsNoLineOf, IsNoAsk, IsNoLine}
+use Rattle.script_text.proofs.Asked.{differ, no_draw, no_grant, verb_apart, fields_apart, request_from, request_back}
+use Rattle.script_text.proofs.ReadBack.{same, wide, word_at, number_at, number_back}
 
-kind_one_word : (kind : Kind) → HasNoSpace (kind_word kind)
-kind_one_word File = no_space_by_test (codes "file") refl
-kind_one_word Queue = no_space_by_test (codes "queue") refl
-
-fields_apart : (request : Request) → IsRequest request → HaveNoSpace (field_words request)
-fields_apart (Make path kind span) within = (word_no_space path (path_word path within.0), (kind_one_word kind, (decimal_one_word span within.1, tt)))
-fields_apart (Append path bytes) within = (word_no_space path (path_word path within.0), (escaped_one_word bytes, tt))
-fields_apart (Read path from len) within = (word_no_space path (path_word path within.0), (decimal_one_word from within.1, (decimal_one_word len (wide len within.2), tt)))
-fields_apart (Length path) within = (word_no_space path (path_word path within), tt)
-fields_apart (Push path item) within = (word_no_space path (path_word path within.0), (escaped_one_word item, tt))
-fields_apart (Pop path) within = (word_no_space path (path_word path within), tt)
-fields_apart (Front path) within = (word_no_space path (path_word path within), tt)
-fields_apart (Count path) within = (word_no_space path (path_word path within), tt)
-fields_apart (Park path) within = (word_no_space path (path_word path within), tt)
-fields_apart (Load path) within = (word_no_space path (path_word path within), tt)
-
-verb_apart : (request : Request) → HasNoSpace (request_word request)
-verb_apart (Make path kind span) = no_space_by_test (codes "make") refl
-verb_apart (Append path bytes) = no_space_by_test (codes "append") refl
-verb_apart (Read path from len) = no_space_by_test (codes "read") refl
-verb_apart (Length path) = no_space_by_test (codes "length") refl
-verb_apart (Push path item) = no_space_by_test (codes "push") refl
-verb_apart (Pop path) = no_space_by_test (codes "pop") refl
-verb_apart (Front path) = no_space_by_test (codes "front") refl
-verb_apart (Count path) = no_space_by_test (codes "count") refl
-verb_apart (Park path) = no_space_by_test (codes "park") refl
-verb_apart (Load path) = no_space_by_test (codes "load") refl
+abbrev verb_of : Request → Verb
+verb_of request = asked_verb (asked_of request)
 
 -- a line's text has its words
 pub words_of-line_text : (line : ScriptLine) → IsScriptLine line → words_of (line_text line) ≡ line_words line
 unfolding line_text joined
 words_of-line_text (Ask user request) within =
-    words_of-joined (request_word request) (decimal user ∷ field_words request) (verb_apart request, (decimal_one_word user (wide user within.0), fields_apart request within.1))
+    words_of-joined (request_word request) (decimal user ∷ field_words request) (verb_apart (verb_of request), (decimal_one_word user (wide user within.0), fields_apart (asked_of request) within.1))
 words_of-line_text Draw within = words_of-joined (codes "draw") [] (no_space_by_test (codes "draw") refl, tt)
 words_of-line_text (Grant user) within =
     words_of-joined (codes "grant") (decimal user ∷ []) (no_space_by_test (codes "grant") refl, (decimal_one_word user (wide user within), tt))
@@ -65,57 +37,6 @@ line_from_words text line is_line = sym (joined-words_of text) ∙ ap (join_with
 
 pub no_line_from_words : (text : List ℕ) → IsNoLineOf (words_of text) → IsNoLine text
 no_line_from_words text none = λ line within same. none line (record { words_are = ap words_of same ∙ words_of-line_text line within; within = within })
-
--- the request of a word and the words after that of the user
-abbrev request_from : List ℕ → List (List ℕ) → Request
-request_from word fields =
-    cond (same word (codes "make")) (Make (word_at fields 0) (cond (same (word_at fields 1) (codes "file")) File Queue) (number_at fields 2))
-    (cond (same word (codes "append")) (Append (word_at fields 0) (bytes_at fields 1))
-    (cond (same word (codes "read")) (Read (word_at fields 0) (number_at fields 1) (number_at fields 2))
-    (cond (same word (codes "length")) (Length (word_at fields 0))
-    (cond (same word (codes "push")) (Push (word_at fields 0) (bytes_at fields 1))
-    (cond (same word (codes "pop")) (Pop (word_at fields 0))
-    (cond (same word (codes "front")) (Front (word_at fields 0))
-    (cond (same word (codes "count")) (Count (word_at fields 0))
-    (cond (same word (codes "park")) (Park (word_at fields 0)) (Load (word_at fields 0))))))))))
-
-request_back : (request : Request) → IsRequest request → request_from (request_word request) (field_words request) ≡ request
-request_back (Make path File span) within = ap (Make path File) (number_back span within.1)
-request_back (Make path Queue span) within = ap (Make path Queue) (number_back span within.1)
-request_back (Append path bytes) within = ap (Append path) (bytes_back bytes)
-request_back (Read path from len) within = λ i. Read path (number_back from within.1 i) (number_back len (wide len within.2) i)
-request_back (Length path) within = refl
-request_back (Push path item) within = ap (Push path) (bytes_back item)
-request_back (Pop path) within = refl
-request_back (Front path) within = refl
-request_back (Count path) within = refl
-request_back (Park path) within = refl
-request_back (Load path) within = refl
-
--- a request's word is that of no other event
-no_draw : (request : Request) → same (request_word request) (codes "draw") ≡ false
-no_draw (Make path kind span) = refl
-no_draw (Append path bytes) = refl
-no_draw (Read path from len) = refl
-no_draw (Length path) = refl
-no_draw (Push path item) = refl
-no_draw (Pop path) = refl
-no_draw (Front path) = refl
-no_draw (Count path) = refl
-no_draw (Park path) = refl
-no_draw (Load path) = refl
-
-no_grant : (request : Request) → same (request_word request) (codes "grant") ≡ false
-no_grant (Make path kind span) = refl
-no_grant (Append path bytes) = refl
-no_grant (Read path from len) = refl
-no_grant (Length path) = refl
-no_grant (Push path item) = refl
-no_grant (Pop path) = refl
-no_grant (Front path) = refl
-no_grant (Count path) = refl
-no_grant (Park path) = refl
-no_grant (Load path) = refl
 
 -- the line of words
 abbrev line_from : List (List ℕ) → ScriptLine
@@ -129,8 +50,8 @@ line_back (Ask user request) within =
     let asked = request_from (request_word request) (field_words request) in
     let other = Ask (digits_value 10 (decimal user)) asked in
     let grant = Grant (digits_value 10 (decimal user)) in
-    cond-false (same (request_word request) (codes "draw")) Draw (cond (same (request_word request) (codes "grant")) grant other) (no_draw request)
-    ∙ cond-false (same (request_word request) (codes "grant")) grant other (no_grant request)
+    cond-false (same (request_word request) (codes "draw")) Draw (cond (same (request_word request) (codes "grant")) grant other) (no_draw (verb_of request))
+    ∙ cond-false (same (request_word request) (codes "grant")) grant other (no_grant (verb_of request))
     ∙ (λ i. Ask (number i) (request_back request within.1 i))
 line_back Draw within = refl
 line_back (Grant user) within = ap Grant (number_back user (wide user within))
@@ -187,12 +108,12 @@ only_asks E word others (Ok None) draw grant none = each
 
 pub no_draw_more : (others : List (List ℕ)) (word : List ℕ) → word ≡ codes "draw" → (others ≡ [] → ⊥) → IsNoLineOf (word ∷ others)
 no_draw_more others word is some (Ask user request) is_line =
-    differ (request_word request) (codes "draw") (no_draw request) (sym (first_same word (request_word request) others (decimal user ∷ field_words request) is_line.words_are) ∙ is)
+    differ (request_word request) (codes "draw") (no_draw (verb_of request)) (sym (first_same word (request_word request) others (decimal user ∷ field_words request) is_line.words_are) ∙ is)
 no_draw_more others word is some Draw is_line = let same = is_line.words_are in some cc
 no_draw_more others word is some (Grant user) is_line = differ (codes "draw") (codes "grant") refl (sym is ∙ first_same word (codes "grant") others (decimal user ∷ []) is_line.words_are)
 
 pub no_grant_of : (others : List (List ℕ)) (word : List ℕ) → word ≡ codes "grant" → ((user : ℕ) → user < 2 ^ 32 → others ≢ decimal user ∷ []) → IsNoLineOf (word ∷ others)
 no_grant_of others word is none (Ask user request) is_line =
-    differ (request_word request) (codes "grant") (no_grant request) (sym (first_same word (request_word request) others (decimal user ∷ field_words request) is_line.words_are) ∙ is)
+    differ (request_word request) (codes "grant") (no_grant (verb_of request)) (sym (first_same word (request_word request) others (decimal user ∷ field_words request) is_line.words_are) ∙ is)
 no_grant_of others word is none Draw is_line = differ (codes "grant") (codes "draw") refl (sym is ∙ first_same word (codes "draw") others [] is_line.words_are)
 no_grant_of others word is none (Grant user) is_line = let same = is_line.words_are in none user is_line.within cc

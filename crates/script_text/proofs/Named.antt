@@ -1,5 +1,5 @@
 -- Each outcome and each row of moves has words of its own.
-use Rattle.std.proofs.Common.{◌≡◌, ℕ, ◌≤◌, ◌||◌, Bool, true, false, cond, List, [], ◌∷◌, ◌++◌, refl, sym, ◌∙◌, ap, subst, append_assoc, append-nil, arith}
+use Rattle.std.proofs.Common.{◌≡◌, ℕ, ◌^◌, ◌<◌, ◌≤◌, ◌||◌, Bool, true, false, cond, List, [], ◌∷◌, ◌++◌, refl, sym, ◌∙◌, ap, subst, append_assoc, append-nil, arith}
 use Rattle.std.specs.Prelude.{codes}
 use Rattle.std.specs.Fmt.{decimal}
 use Rattle.std.specs.List.{list_all}
@@ -16,7 +16,7 @@ use Rattle.script_text.specs.Words.{joined}
 use Rattle.script_text.specs.Damages.{stamp_text, found_text}
 use Rattle.script_text.specs.Outcomes.{outcome_words, OutcomeFits, HasNoMark}
 use Rattle.script_text.specs.Moves.{freed_words, placed_words, FreedFits, PlacedFits}
-use Rattle.script_text.proofs.OneLine.{IsWord, AreWords, is_letter, letters_above, letters_word, words_no_space, decimal_word, escaped_word, path_word}
+use Rattle.script_text.proofs.OneLine.{IsWord, AreWords, is_letter, letters_above, letters_part, part_word, words_no_space, decimal_word, escaped_word, path_word}
 use Rattle.script_text.proofs.ReadBack.{same, wide, word_at, number_at, number_back, bytes_at, bytes_back}
 use Rattle.script_text.proofs.Stamped.{stamp_word, stamp_at, stamp_back, found_word, found_at, found_back}
 
@@ -59,22 +59,39 @@ record Named (outcome : Outcome) : Type 0 where
 alone : (outcome : Outcome) (word : List ℕ) → outcome_words outcome ≡ word ∷ [] → is_name word ≡ true → outcome_from word [] ≡ outcome → Named outcome
 alone outcome word words_are name back = record { word = word; others = []; words_are = words_are; name = name; are = λ f. tt; back = λ f. back }
 
+-- of a word and a number, of a word and two, and of a word and bytes
+with_number : (of : ℕ → Outcome) (word : List ℕ) (n : ℕ) → (OutcomeFits (of n) → n < 2 ^ 64) → outcome_words (of n) ≡ word ∷ decimal n ∷ [] → is_name word ≡ true
+    → ((others : List (List ℕ)) → outcome_from word others ≡ of (number_at others 0)) → Named (of n)
+with_number of word n low words_are name tells =
+    record { word = word; others = decimal n ∷ []; words_are = words_are; name = name; are = λ f. (decimal_word n (low f), tt); back = λ f. tells (decimal n ∷ []) ∙ ap of (number_back n (low f)) }
+
+with_numbers : (of : ℕ → ℕ → Outcome) (word : List ℕ) (m n : ℕ) → (OutcomeFits (of m n) → (m < 2 ^ 32) × (n < 2 ^ 64)) → outcome_words (of m n) ≡ word ∷ decimal m ∷ decimal n ∷ [] → is_name word ≡ true
+    → ((others : List (List ℕ)) → outcome_from word others ≡ of (number_at others 0) (number_at others 1)) → Named (of m n)
+with_numbers of word m n low words_are name tells = record {
+  word = word;
+  others = decimal m ∷ decimal n ∷ [];
+  words_are = words_are;
+  name = name;
+  are = λ f. (decimal_word m (wide m (low f).0), (decimal_word n (low f).1, tt));
+  back = λ f. tells (decimal m ∷ decimal n ∷ []) ∙ (λ i. of (number_back m (wide m (low f).0) i) (number_back n (low f).1 i));
+}
+
+with_bytes : (of : List ℕ → Outcome) (word bytes : List ℕ) → outcome_words (of bytes) ≡ word ∷ escaped bytes ∷ [] → is_name word ≡ true
+    → ((others : List (List ℕ)) → outcome_from word others ≡ of (bytes_at others 0)) → Named (of bytes)
+with_bytes of word bytes words_are name tells =
+    record { word = word; others = escaped bytes ∷ []; words_are = words_are; name = name; are = λ f. (escaped_word bytes, tt); back = λ f. tells (escaped bytes ∷ []) ∙ ap of (bytes_back bytes) }
+
 named : (outcome : Outcome) → Named outcome
 named (Replied Done) = alone (Replied Done) (codes "done") refl refl refl
-named (Replied (Number n)) =
-    record { word = codes "number"; others = decimal n ∷ []; words_are = refl; name = refl; are = λ f. (decimal_word n f, tt); back = λ f. ap (λ m. Replied (Number m)) (number_back n f) }
-named (Replied (Bytes bytes)) =
-    record { word = codes "bytes"; others = escaped bytes ∷ []; words_are = refl; name = refl; are = λ f. (escaped_word bytes, tt); back = λ f. ap (λ b. Replied (Bytes b)) (bytes_back bytes) }
-named (Replied (Item item)) =
-    record { word = codes "item"; others = escaped item ∷ []; words_are = refl; name = refl; are = λ f. (escaped_word item, tt); back = λ f. ap (λ b. Replied (Item b)) (bytes_back item) }
+named (Replied (Number n)) = with_number (λ m. Replied (Number m)) (codes "number") n (λ f. f) refl refl (λ others. refl)
+named (Replied (Bytes bytes)) = with_bytes (λ b. Replied (Bytes b)) (codes "bytes") bytes refl refl (λ others. refl)
+named (Replied (Item item)) = with_bytes (λ b. Replied (Item b)) (codes "item") item refl refl (λ others. refl)
 named (Replied Nothing) = alone (Replied Nothing) (codes "nothing") refl refl refl
-named (Replied (TooLong limit)) =
-    record { word = codes "toolong"; others = decimal limit ∷ []; words_are = refl; name = refl; are = λ f. (decimal_word limit f, tt); back = λ f. ap (λ m. Replied (TooLong m)) (number_back limit f) }
+named (Replied (TooLong limit)) = with_number (λ m. Replied (TooLong m)) (codes "toolong") limit (λ f. f) refl refl (λ others. refl)
 named (Replied Absent) = alone (Replied Absent) (codes "absent") refl refl refl
 named (Replied WrongKind) = alone (Replied WrongKind) (codes "wrongkind") refl refl refl
 named (Replied Exists) = alone (Replied Exists) (codes "exists") refl refl refl
-named (Replied (Full limit)) =
-    record { word = codes "full"; others = decimal limit ∷ []; words_are = refl; name = refl; are = λ f. (decimal_word limit f, tt); back = λ f. ap (λ m. Replied (Full m)) (number_back limit f) }
+named (Replied (Full limit)) = with_number (λ m. Replied (Full m)) (codes "full") limit (λ f. f) refl refl (λ others. refl)
 named (Replied (Exhausted need used granted)) = record {
   word = codes "exhausted";
   others = decimal need ∷ decimal used ∷ decimal granted ∷ [];
@@ -92,37 +109,16 @@ named (Replied (Damaged kept found)) = record {
   are = λ f. (stamp_word kept f.0, (found_word found f.1, tt));
   back = λ f. λ i. Replied (Damaged (stamp_back kept f.0 i) (found_back found f.1 i));
 }
-named (Replied (AbsentUser users)) = record {
-  word = codes "absentuser";
-  others = decimal users ∷ [];
-  words_are = refl;
-  name = refl;
-  are = λ f. (decimal_word users (wide users f), tt);
-  back = λ f. ap (λ m. Replied (AbsentUser m)) (number_back users (wide users f));
-}
+named (Replied (AbsentUser users)) = with_number (λ m. Replied (AbsentUser m)) (codes "absentuser") users (wide users) refl refl (λ others. refl)
 named (Replied NoMemory) = alone (Replied NoMemory) (codes "nomemory") refl refl refl
-named (Slice slice number) = record {
-  word = codes "slice";
-  others = decimal slice ∷ decimal number ∷ [];
-  words_are = refl;
-  name = refl;
-  are = λ f. (decimal_word slice (wide slice f.0), (decimal_word number f.1, tt));
-  back = λ f. λ i. Slice (number_back slice (wide slice f.0) i) (number_back number f.1 i);
-}
-named (Granted slice number) = record {
-  word = codes "granted";
-  others = decimal slice ∷ decimal number ∷ [];
-  words_are = refl;
-  name = refl;
-  are = λ f. (decimal_word slice (wide slice f.0), (decimal_word number f.1, tt));
-  back = λ f. λ i. Granted (number_back slice (wide slice f.0) i) (number_back number f.1 i);
-}
+named (Slice slice number) = with_numbers Slice (codes "slice") slice number (λ f. f) refl refl (λ others. refl)
+named (Granted slice number) = with_numbers Granted (codes "granted") slice number (λ f. f) refl refl (λ others. refl)
 named HandEmpty = alone HandEmpty (codes "handempty") refl refl refl
 named PoolEmpty = alone PoolEmpty (codes "poolempty") refl refl refl
 
 name_word : (word : List ℕ) → is_name word ≡ true → IsWord word
 name_word [] name = absurd (false≢true name)
-name_word (byte ∷ bytes) name = letters_word (byte ∷ bytes) name
+name_word (byte ∷ bytes) name = part_word (byte ∷ bytes) (letters_part (byte ∷ bytes) name)
 
 -- a line that begins with a name begins as no line of moves does
 name_first : (word rest : List ℕ) → is_name word ≡ true → HasNoMark (word ++ rest)

@@ -49,10 +49,26 @@ pub IsWord-append : (xs ys : List ℕ) → IsWord xs → IsWord ys → IsWord (x
 IsWord-append [] ys word also = also
 IsWord-append (x ∷ xs) ys word also = (word.0, word.1, IsWord-append xs ys word.2 also)
 
+-- bytes above the space, without a colon
+abbrev pub IsPart : List ℕ → Type 0
+IsPart [] = Unit {0}
+IsPart (byte ∷ bytes) = (32 < byte) × (byte ≢ 58) × IsPart bytes
+
+pub IsPart-append : (xs ys : List ℕ) → IsPart xs → IsPart ys → IsPart (xs ++ ys)
+IsPart-append [] ys part also = also
+IsPart-append (x ∷ xs) ys part also = (part.0, part.1, IsPart-append xs ys part.2 also)
+
+pub part_word : (bytes : List ℕ) → IsPart bytes → IsWord bytes
+part_word [] part = tt
+part_word (byte ∷ bytes) part = (λ space. absurd (omega arith), λ end. absurd (omega arith), part_word bytes part.2)
+
+pub decimal_part : (n : ℕ) → n < 2 ^ 64 → IsPart (decimal n)
+decimal_part n fits =
+    decimal_by_steps (λ n digits. IsPart digits) (λ n low. (omega arith, λ colon. absurd (omega arith), tt))
+    (λ n digits high before. IsPart-append digits ((48 + n % 10) ∷ []) before (omega arith, λ colon. absurd (omega arith), tt)) n fits
+
 pub decimal_word : (n : ℕ) → n < 2 ^ 64 → IsWord (decimal n)
-decimal_word n fits =
-    decimal_by_steps (λ n digits. IsWord digits) (λ n low. (λ e. absurd (omega arith), λ e. absurd (omega arith), tt))
-    (λ n digits high before. IsWord-append digits ((48 + n % 10) ∷ []) before (λ e. absurd (omega arith), λ e. absurd (omega arith), tt)) n fits
+decimal_word n fits = part_word (decimal n) (decimal_part n fits)
 
 -- a byte of an escaped text is above the space
 escape_word : (byte : ℕ) → IsWord (escaped_byte byte)
@@ -87,12 +103,12 @@ letters_above byte bytes letters =
     let parts = and_parts (is_letter byte) (list_all is_letter bytes) letters in
     (leb-true 97 byte (and_parts (leb 97 byte) (leb byte 122) parts.0).0, parts.1)
 
-pub letters_word : (bytes : List ℕ) → list_all is_letter bytes ≡ true → IsWord bytes
-letters_word [] letters = tt
-letters_word (byte ∷ bytes) letters =
+pub letters_part : (bytes : List ℕ) → list_all is_letter bytes ≡ true → IsPart bytes
+letters_part [] letters = tt
+letters_part (byte ∷ bytes) letters =
     let above = letters_above byte bytes letters in
     let low : 97 ≤ byte = above.0 in
-    (λ space. absurd (omega arith), λ end. absurd (omega arith), letters_word bytes above.1)
+    (omega arith, λ colon. absurd (omega arith), letters_part bytes above.1)
 
 name_word : (text : List ℕ) → list_all is_name_byte text ≡ true → IsWord text
 name_word [] names = tt
@@ -100,16 +116,16 @@ name_word (byte ∷ bytes) names =
     let parts = and_parts (is_name_byte byte) (list_all is_name_byte bytes) names in
     (λ space. false≢true (subst (λ b. is_name_byte b ≡ true) space parts.0), λ end. false≢true (subst (λ b. is_name_byte b ≡ true) end parts.0), name_word bytes parts.1)
 
-part_word : (text : List ℕ) → is_part text ≡ true → IsWord text
+path_part_word : (text : List ℕ) → is_part text ≡ true → IsWord text
 unfolding is_part
-part_word text part = name_word text (and_parts (is_between 1 32 (length text)) (list_all is_name_byte text) part).1
+path_part_word text part = name_word text (and_parts (is_between 1 32 (length text)) (list_all is_name_byte text) part).1
 
 parts_word : (parts : List (List ℕ)) → list_all is_part parts ≡ true → IsWord (join_with_byte slash parts)
 parts_word [] parts = tt
-parts_word (part ∷ []) parts = part_word part (and_parts (is_part part) true parts).0
+parts_word (part ∷ []) parts = path_part_word part (and_parts (is_part part) true parts).0
 parts_word (part ∷ next ∷ more) parts =
     let both = and_parts (is_part part) (list_all is_part (next ∷ more)) parts in
-    IsWord-append part (slash ∷ join_with_byte slash (next ∷ more)) (part_word part both.0) (λ e. absurd (omega arith), λ e. absurd (omega arith), parts_word (next ∷ more) both.1)
+    IsWord-append part (slash ∷ join_with_byte slash (next ∷ more)) (path_part_word part both.0) (λ e. absurd (omega arith), λ e. absurd (omega arith), parts_word (next ∷ more) both.1)
 
 pub path_word : (path : List ℕ) → IsTrue (is_path path) → IsWord path
 unfolding is_path

@@ -1,10 +1,8 @@
 -- Stamps, and what was found in their place, are words, and are read back from them.
-use Rattle.std.proofs.Common.{◌≡◌, ◌≢◌, ℕ, ◌+◌, ◌/◌, ◌%◌, ◌^◌, ◌<◌, ◌≤◌, true, cond, eqb, ltb, List, [], ◌∷◌, ◌++◌, length, drop, refl, ◌∙◌, ap, arith}
+use Rattle.std.proofs.Common.{◌≡◌, ℕ, ◌+◌, ◌/◌, ◌%◌, ◌^◌, ◌<◌, cond, eqb, ltb, List, [], ◌∷◌, ◌++◌, length, drop, refl, ◌∙◌, ap, arith}
 use Rattle.std.specs.Prelude.{codes}
-use Rattle.std.specs.Fmt.{decimal}
-use Rattle.std.specs.List.{list_all, slice_split, onto_first, join_with_byte}
+use Rattle.std.specs.List.{slice_split, onto_first, join_with_byte}
 use Rattle.std.proofs.lemmas.Bool.{cond_both, ne_eqb, ltb-true}
-use Rattle.std.proofs.lemmas.Fmt.{decimal_by_steps}
 use Rattle.std.proofs.lemmas.List.Splits.{slice_split-cons_yes, slice_split-cons_no}
 use Rattle.far_words.specs.declared.stamp.Stamp.{Stamp}
 use Rattle.far_words.specs.declared.stamp.ImageFault.{ImageFault}
@@ -12,33 +10,12 @@ use Rattle.far_words.specs.declared.stamp.ImageFault.TheVariants.{Short, Magic, 
 use Rattle.far_words.specs.declared.stamp.Found.{Found}
 use Rattle.far_words.specs.declared.stamp.Found.TheVariants.{Absent, Broken, Longer, Other, Unfit}
 use Rattle.script_text.specs.Damages.{with_colons, low_digit, digest_text, stamp_parts, fault_parts, found_parts, stamp_text, found_text, StampFits, FaultFits, FoundFits}
-use Rattle.script_text.proofs.OneLine.{IsWord, IsWord-append, is_letter, letters_above}
+use Rattle.script_text.proofs.OneLine.{IsWord, IsWord-append, IsPart, part_word, decimal_part, letters_part}
 use Rattle.script_text.proofs.ReadBack.{wide, same, word_at, number_at, number_back, digest_from, digest_back}
-
--- bytes above the space, without a colon
-abbrev pub IsPart : List ℕ → Type 0
-IsPart [] = Unit {0}
-IsPart (byte ∷ bytes) = (32 < byte) × (byte ≢ 58) × IsPart bytes
 
 abbrev AreParts : List (List ℕ) → Type 0
 AreParts [] = Unit {0}
 AreParts (part ∷ parts) = IsPart part × AreParts parts
-
-IsPart-append : (xs ys : List ℕ) → IsPart xs → IsPart ys → IsPart (xs ++ ys)
-IsPart-append [] ys part also = also
-IsPart-append (x ∷ xs) ys part also = (part.0, part.1, IsPart-append xs ys part.2 also)
-
-letters_part : (bytes : List ℕ) → list_all is_letter bytes ≡ true → IsPart bytes
-letters_part [] letters = tt
-letters_part (byte ∷ bytes) letters =
-    let above = letters_above byte bytes letters in
-    let low : 97 ≤ byte = above.0 in
-    (omega arith, λ colon. absurd (omega arith), letters_part bytes above.1)
-
-decimal_part : (n : ℕ) → n < 2 ^ 64 → IsPart (decimal n)
-decimal_part n fits =
-    decimal_by_steps (λ n digits. IsPart digits) (λ n low. (omega arith, λ colon. absurd (omega arith), tt))
-    (λ n digits high before. IsPart-append digits ((48 + n % 10) ∷ []) before (omega arith, λ colon. absurd (omega arith), tt)) n fits
 
 digit_part : (digit : ℕ) (rest : List ℕ) → IsPart rest → IsPart (low_digit digit ∷ rest)
 digit_part digit rest part =
@@ -49,10 +26,6 @@ digest_part : (bytes : List ℕ) → IsPart (digest_text bytes)
 digest_part [] = tt
 digest_part (byte ∷ bytes) =
     digit_part (byte / 16) (low_digit (byte % 16) ∷ digest_text bytes) (digit_part (byte % 16) (digest_text bytes) (digest_part bytes))
-
-part_word : (bytes : List ℕ) → IsPart bytes → IsWord bytes
-part_word [] part = tt
-part_word (byte ∷ bytes) part = (λ space. absurd (omega arith), λ end. absurd (omega arith), part_word bytes part.2)
 
 parts_word : (parts : List (List ℕ)) → AreParts parts → IsWord (with_colons parts)
 unfolding with_colons
@@ -137,10 +110,7 @@ fault_back (Digest kept found) fits = λ i. Digest (digest_back kept i) (digest_
 -- there is a first part
 pub fault_some : (fault : ImageFault) → 0 < length (fault_parts fault)
 fault_some (Short have) = omega arith
-fault_some Magic = omega arith
-fault_some (Version found) = omega arith
-fault_some (Length said have) = omega arith
-fault_some (Digest kept found) = omega arith
+fault_some fault = omega arith
 
 -- what was found
 found_are : (found : Found) → FoundFits found → AreParts (found_parts found)
@@ -173,10 +143,7 @@ found_at text = found_from (parts_of text)
 
 found_some : (found : Found) → 0 < length (found_parts found)
 found_some Absent = omega arith
-found_some (Broken fault) = omega arith
-found_some (Longer len) = omega arith
-found_some (Other stamp) = omega arith
-found_some (Unfit place) = omega arith
+found_some found = omega arith
 
 pub found_back : (found : Found) → FoundFits found → found_at (found_text found) ≡ found
 found_back found fits = ap found_from (parts_back (found_parts found) (found_are found fits) (found_some found)) ∙ found_parts_back found fits

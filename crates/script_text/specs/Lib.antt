@@ -2,6 +2,8 @@
 pub mod Words
 -- the word of each request
 pub mod Verbs
+-- what a request asks, by the shape of its line
+pub mod Asked
 -- the lines of a script
 pub mod Lines
 -- the words of a request's line, apart from its user

@@ -1,11 +1,12 @@
 //! What is wrong with a line of a script, for a person to read. No contract speaks of it: what a line is, `parse_line` says.
 
+use crate::verb::{Verb, is_word};
 use far_io::{parse_decimal, split_word};
 use far_words::Path;
 use run_end::LineFault;
 
 /// What a word of a line has to be.
-#[derive(Clone, Copy, Debug, PartialEq, Eq)]
+#[derive(Clone, Copy)]
 enum Field {
     /// A decimal of at most so much.
     Number(u64),
@@ -21,25 +22,37 @@ const USER: Field = Field::Number(u32::MAX as u64);
 
 const NUMBER: Field = Field::Number(u64::MAX);
 
+/// What the words after the first one have to be in the line of a request.
+fn fields_of(verb: Verb) -> &'static [Field] {
+    match verb {
+        Verb::Make => &[USER, Field::Path, Field::Kind, NUMBER],
+        Verb::Read => &[USER, Field::Path, NUMBER, USER],
+        Verb::OfBytes(_) => &[USER, Field::Path, Field::Escape],
+        Verb::OfPath(_) => &[USER, Field::Path],
+    }
+}
+
 /// What the words after the first one have to be, None where no line begins with this word.
 fn fields_after(first: &[u8]) -> Option<&'static [Field]> {
-    match first {
-        b"draw" => Some(&[]),
-        b"grant" => Some(&[USER]),
-        b"make" => Some(&[USER, Field::Path, Field::Kind, NUMBER]),
-        b"append" | b"push" => Some(&[USER, Field::Path, Field::Escape]),
-        b"read" => Some(&[USER, Field::Path, NUMBER, USER]),
-        b"length" | b"pop" | b"front" | b"count" | b"park" | b"load" => {
-            Some(&[USER, Field::Path])
-        }
-        _ => None,
+    if is_word(first, b"draw") {
+        return Some(&[]);
     }
+    if is_word(first, b"grant") {
+        return Some(&[USER]);
+    }
+    let verb = Verb::parse(first)?;
+    Some(fields_of(verb))
 }
 
 /// How many words a text has.
 fn count_words(text: &[u8]) -> u64 {
-    let spaces = text.iter().filter(|byte| **byte == b' ').count();
-    (spaces as u64).saturating_add(1)
+    let mut count = 1u64;
+    for byte in text {
+        if *byte == b' ' {
+            count = count.saturating_add(1);
+        }
+    }
+    count
 }
 
 /// What is wrong with a word, where it isn't what it has to be. An escaped text isn't looked at.

@@ -1,14 +1,16 @@
 //! Outcome lines.
 
-ghost use Rattle.std.specs.Prelude.{◌≡◌, ◌+◌, ◌*◌, ◌≤◌, ◌∷◌, [], ◌++◌, length, map, codes, decimal, OnErr, OnOk};
+ghost use Rattle.std.specs.Prelude.{◌≡◌, ◌+◌, ◌*◌, ◌≤◌, ◌∷◌, [], ◌++◌, length, map, decimal, OnErr, OnOk};
+ghost use Rattle.std.specs.Option.{option_copied};
 ghost use Rattle.far_io.specs.Faults.{HasCause};
 ghost use Rattle.far_io.specs.Adds.{Adds, AddsPrefix};
 ghost use Rattle.far_io.specs.Escapes.{escaped};
 ghost use Rattle.far_io.specs.Sends.{Sends};
+ghost use Rattle.script_text.specs.declared.outcome.TheConstants.{LINE_ROOM};
 ghost use Rattle.script_text.specs.declared.rows.TheConstants.{NUMBER_ROOM};
-ghost use Rattle.script_text.specs.Words.{ended};
+ghost use Rattle.script_text.specs.Words.{ended, IsPut};
 ghost use Rattle.script_text.specs.Damages.{damage_words};
-ghost use Rattle.script_text.specs.Outcomes.{reply_words, outcome_text, OutcomeFits, IsOutcomeLine};
+ghost use Rattle.script_text.specs.Outcomes.{reply_words, outcome_words, outcome_text, OutcomeFits, IsOutcomeLine};
 
 use crate::damages::{DAMAGE_ROOM, push_damage};
 use crate::rows::{NUMBER_ROOM, push_line};
@@ -16,92 +18,98 @@ use far_asks::{Outcome, Reply};
 use far_io::{Piece, Sink, WriteFault, flush, make_room, push_escaped};
 use far_words::{Found, Stamp};
 
+/// The most bytes of a line, apart from an escaped text at its end.
+const LINE_ROOM: usize = DAMAGE_ROOM;
+
+// A line is put in a piece whole, which is answered by None, or up to the bytes whose escaped text ends it.
+
 /// Puts a line of a word and numbers.
-fn put_line<O: Sink>(
-    word: &[u8],
-    numbers: &[u64],
-    sink: &mut O,
-    piece: &mut Piece,
-) -> Result<(), WriteFault>
-    requires { length word.now + NUMBER_ROOM * length numbers.now + 1 ≤ 4096 }
-    ensures sends { OnOk result (Sends O.took sink.old sink.new piece.old piece.new (ended (word.now ∷ map decimal numbers.now))) }
-    ensures prefix { OnErr result (AddsPrefix O.took sink.old sink.new (piece.old ++ ended (word.now ∷ map decimal numbers.now))) }
-    ensures cause { HasCause (O.faults sink.old) (O.faults sink.new) result }
+fn push_numbered<'a>(piece: &mut Piece, word: &[u8], numbers: &[u64]) -> Option<&'a [u8]>
+    requires { length piece.old + length word.now + NUMBER_ROOM * length numbers.now + 1 ≤ 4096 }
+    ensures { IsPut piece.old (word.now ∷ map decimal numbers.now) piece.new (option_copied result) }
 {
-    make_room(sink, piece, word.len() + NUMBER_ROOM * numbers.len() + 1)?;
     push_line(piece, word, numbers);
-    Ok(())
+    None
 }
 
-/// Puts the line of a word and an escaped text.
-fn put_bytes<O: Sink>(
-    word: &[u8],
-    bytes: &[u8],
-    sink: &mut O,
-    piece: &mut Piece,
-) -> Result<(), WriteFault>
-    requires { length word.now + 1 ≤ 4096 }
-    ensures sends { OnOk result (Sends O.took sink.old sink.new piece.old piece.new (ended (word.now ∷ escaped bytes.now ∷ []))) }
-    ensures prefix { OnErr result (AddsPrefix O.took sink.old sink.new (piece.old ++ ended (word.now ∷ escaped bytes.now ∷ []))) }
-    ensures cause { HasCause (O.faults sink.old) (O.faults sink.new) result }
+/// Puts a line of a word and bytes, up to these.
+fn push_before<'a>(piece: &mut Piece, word: &[u8], bytes: &'a [u8]) -> Option<&'a [u8]>
+    requires { length piece.old + length word.now + 1 ≤ 4096 }
+    ensures { IsPut piece.old (word.now ∷ escaped bytes.now ∷ []) piece.new (option_copied result) }
 {
-    make_room(sink, piece, word.len() + 1)?;
     piece.push_all(word);
     piece.push(b' ');
+    Some(bytes)
+}
+
+/// Puts the line of a block that isn't as it was parked.
+fn push_damaged<'a>(piece: &mut Piece, kept: &Stamp, found: &Found) -> Option<&'a [u8]>
+    requires { length piece.old + LINE_ROOM ≤ 4096 }
+    ensures { IsPut piece.old (damage_words kept.now found.now) piece.new (option_copied result) }
+{
+    push_damage(piece, kept, found);
+    None
+}
+
+/// Puts the line of a reply.
+fn push_reply<'a>(piece: &mut Piece, reply: &'a Reply) -> Option<&'a [u8]>
+    requires { length piece.old + LINE_ROOM ≤ 4096 }
+    ensures { IsPut piece.old (reply_words reply.now) piece.new (option_copied result) }
+{
+    match reply {
+        Reply::Done => push_numbered(piece, b"done", &[]),
+        Reply::Number(number) => push_numbered(piece, b"number", &[*number]),
+        Reply::Bytes(bytes) => push_before(piece, b"bytes", bytes.items()),
+        Reply::Item(item) => push_before(piece, b"item", item.items()),
+        Reply::Nothing => push_numbered(piece, b"nothing", &[]),
+        Reply::TooLong { limit } => push_numbered(piece, b"toolong", &[*limit]),
+        Reply::Absent => push_numbered(piece, b"absent", &[]),
+        Reply::WrongKind => push_numbered(piece, b"wrongkind", &[]),
+        Reply::Exists => push_numbered(piece, b"exists", &[]),
+        Reply::Full { limit } => push_numbered(piece, b"full", &[*limit]),
+        Reply::Exhausted {
+            need,
+            used,
+            granted,
+        } => push_numbered(piece, b"exhausted", &[*need, *used, *granted]),
+        Reply::StoreFault => push_numbered(piece, b"storefault", &[]),
+        Reply::Damaged { kept, found } => push_damaged(piece, kept, found),
+        Reply::AbsentUser { users } => push_numbered(piece, b"absentuser", &[*users as u64]),
+        Reply::NoMemory => push_numbered(piece, b"nomemory", &[]),
+    }
+}
+
+/// Puts the line of an outcome.
+fn push_outcome<'a>(piece: &mut Piece, outcome: &'a Outcome) -> Option<&'a [u8]>
+    requires { length piece.old + LINE_ROOM ≤ 4096 }
+    ensures { IsPut piece.old (outcome_words outcome.now) piece.new (option_copied result) }
+{
+    match outcome {
+        Outcome::Reply(reply) => push_reply(piece, reply),
+        Outcome::Slice { slice, number } => {
+            push_numbered(piece, b"slice", &[*slice as u64, *number])
+        }
+        Outcome::Granted { slice, number } => {
+            push_numbered(piece, b"granted", &[*slice as u64, *number])
+        }
+        Outcome::HandEmpty => push_numbered(piece, b"handempty", &[]),
+        Outcome::PoolEmpty => push_numbered(piece, b"poolempty", &[]),
+    }
+}
+
+/// Puts the escaped text that ends a line, and the line's end.
+fn put_text<O: Sink>(bytes: &[u8], sink: &mut O, piece: &mut Piece) -> Result<(), WriteFault>
+    ensures sends { OnOk result (Sends O.took sink.old sink.new piece.old piece.new (escaped bytes.now ++ 10 ∷ [])) }
+    ensures prefix { OnErr result (AddsPrefix O.took sink.old sink.new (piece.old ++ (escaped bytes.now ++ 10 ∷ []))) }
+    ensures cause { HasCause (O.faults sink.old) (O.faults sink.new) result }
+{
     push_escaped(sink, piece, bytes)?;
     make_room(sink, piece, 1)?;
     piece.push(b'\n');
     Ok(())
 }
 
-/// Puts the line of a block that isn't as it was parked.
-fn put_damage<O: Sink>(
-    kept: &Stamp,
-    found: &Found,
-    sink: &mut O,
-    piece: &mut Piece,
-) -> Result<(), WriteFault>
-    ensures sends { OnOk result (Sends O.took sink.old sink.new piece.old piece.new
-        (ended (damage_words kept.now found.now))) }
-    ensures prefix { OnErr result (AddsPrefix O.took sink.old sink.new (piece.old ++ ended (damage_words kept.now found.now))) }
-    ensures cause { HasCause (O.faults sink.old) (O.faults sink.new) result }
-{
-    make_room(sink, piece, DAMAGE_ROOM)?;
-    push_damage(piece, kept, found);
-    Ok(())
-}
-
-/// Puts the line of a reply.
-fn put_reply<O: Sink>(reply: &Reply, sink: &mut O, piece: &mut Piece) -> Result<(), WriteFault>
-    ensures sends { OnOk result (Sends O.took sink.old sink.new piece.old piece.new (ended (reply_words reply.now))) }
-    ensures prefix { OnErr result (AddsPrefix O.took sink.old sink.new (piece.old ++ ended (reply_words reply.now))) }
-    ensures cause { HasCause (O.faults sink.old) (O.faults sink.new) result }
-{
-    match reply {
-        Reply::Done => put_line(b"done", &[], sink, piece),
-        Reply::Number(number) => put_line(b"number", &[*number], sink, piece),
-        Reply::Bytes(bytes) => put_bytes(b"bytes", bytes.items(), sink, piece),
-        Reply::Item(item) => put_bytes(b"item", item.items(), sink, piece),
-        Reply::Nothing => put_line(b"nothing", &[], sink, piece),
-        Reply::TooLong { limit } => put_line(b"toolong", &[*limit], sink, piece),
-        Reply::Absent => put_line(b"absent", &[], sink, piece),
-        Reply::WrongKind => put_line(b"wrongkind", &[], sink, piece),
-        Reply::Exists => put_line(b"exists", &[], sink, piece),
-        Reply::Full { limit } => put_line(b"full", &[*limit], sink, piece),
-        Reply::Exhausted {
-            need,
-            used,
-            granted,
-        } => put_line(b"exhausted", &[*need, *used, *granted], sink, piece),
-        Reply::StoreFault => put_line(b"storefault", &[], sink, piece),
-        Reply::Damaged { kept, found } => put_damage(kept, found, sink, piece),
-        Reply::AbsentUser { users } => put_line(b"absentuser", &[*users as u64], sink, piece),
-        Reply::NoMemory => put_line(b"nomemory", &[], sink, piece),
-    }
-}
-
-/// Puts the line of an outcome.
-#[tactic(auto, unfolding(crate::specs::Outcomes::outcome_text))]
+/// Puts the line of an outcome, whole.
 fn put_outcome<O: Sink>(
     outcome: &Outcome,
     sink: &mut O,
@@ -111,16 +119,10 @@ fn put_outcome<O: Sink>(
     ensures prefix { OnErr result (AddsPrefix O.took sink.old sink.new (piece.old ++ outcome_text outcome.now)) }
     ensures cause { HasCause (O.faults sink.old) (O.faults sink.new) result }
 {
-    match outcome {
-        Outcome::Reply(reply) => put_reply(reply, sink, piece),
-        Outcome::Slice { slice, number } => {
-            put_line(b"slice", &[*slice as u64, *number], sink, piece)
-        }
-        Outcome::Granted { slice, number } => {
-            put_line(b"granted", &[*slice as u64, *number], sink, piece)
-        }
-        Outcome::HandEmpty => put_line(b"handempty", &[], sink, piece),
-        Outcome::PoolEmpty => put_line(b"poolempty", &[], sink, piece),
+    make_room(sink, piece, LINE_ROOM)?;
+    match push_outcome(piece, outcome) {
+        None => Ok(()),
+        Some(bytes) => put_text(bytes, sink, piece),
     }
 }
 
