@@ -1,6 +1,6 @@
-//! Moves are kept as they came.
+//! Moves are kept as they came, and limits have their numbers.
 
-use crate::{Moves, Path, PlacedRow};
+use crate::{MOST_IN_FILE, MOST_IN_QUEUE, Moves, Path, PlacedRow};
 use std::test::Fail;
 
 #[test]
@@ -20,4 +20,10 @@ fn moves_are_kept(rt: HostRuntime) -> Result<(), Fail> {
     assert_eq!(rt; moves.placed().len(), 1);
     assert_eq!(rt; moves.placed()[0].number, 5);
     Ok(())
+}
+
+#[test]
+fn limits_have_their_numbers(rt: HostRuntime) {
+    assert_eq!(rt; MOST_IN_FILE, 1_099_511_627_776);
+    assert_eq!(rt; MOST_IN_QUEUE, 1_099_511_627_776);
 }
