@@ -1,3 +1,5 @@
+-- tables by kinds
+pub mod Tables
 -- the table of requests
 pub mod Requests
 -- the table of replies

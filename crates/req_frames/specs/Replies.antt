@@ -7,7 +7,8 @@ use Rattle.req_frames.specs.declared.kinds.ReplyKind.{ReplyKind}
 use Rattle.req_frames.specs.declared.kinds.ReplyKind.TheVariants as kinds
 use Rattle.frame_fields.specs.declared.ends.ReadEnd.{ReadEnd}
 use Rattle.frame_fields.specs.Fields.{Field, Byte, Word, Long, Text}
-use Rattle.frame_fields.specs.FrameLayouts.{Layout, Stop, both, Table, row_of}
+use Rattle.frame_fields.specs.FrameLayouts.{Layout, Stop, both, Table}
+use Rattle.req_frames.specs.Tables.{table_of}
 use Rattle.frame_fields.specs.Reads.{ReadsKind}
 use Rattle.frame_fields.specs.Parts.{a_word, a_long, a_blob, a_part, part_fields, rows_of, fields_of_rows, place, place_fields, optional_long, optional_fields}
 use Rattle.frame_fields.specs.Stamps.{stamp, stamp_fields, found, found_fields}
@@ -36,37 +37,39 @@ reply_byte kinds.TooMuch = 89
 reply_byte kinds.NoMemory = 90
 reply_byte kinds.Full = 91
 
-abbrev row : ReplyKind → Layout → ℕ × Layout
-row kind layout = (reply_byte kind, layout)
-
--- the kinds, and what follows each
-abbrev pub replies : Table
-replies =
-    row kinds.Done Stop
-    ∷ row kinds.Number (a_long Stop)
-    ∷ row kinds.Bytes (a_blob Stop)
-    ∷ row kinds.Item (a_blob Stop)
-    ∷ row kinds.Nothing Stop
-    ∷ row kinds.Names (rows_of (a_part Stop))
-    ∷ row kinds.Places (rows_of place)
-    ∷ row kinds.Share (a_long (a_long (a_long Stop)))
-    ∷ row kinds.TooLong (a_long Stop)
-    ∷ row kinds.Absent Stop
-    ∷ row kinds.WrongKind Stop
-    ∷ row kinds.Exists Stop
-    ∷ row kinds.Exhausted (a_long (a_long (a_long Stop)))
-    ∷ row kinds.StoreFault Stop
-    ∷ row kinds.Damaged (both stamp found)
-    ∷ row kinds.Stale (a_long optional_long)
-    ∷ row kinds.AbsentUser (a_word Stop)
-    ∷ row kinds.TooMuch (a_long Stop)
-    ∷ row kinds.NoMemory Stop
-    ∷ row kinds.Full (a_long Stop)
-    ∷ []
-
 -- what follows a kind
 abbrev pub reply_layout : ReplyKind → Layout
-reply_layout kind = row_of replies (reply_byte kind)
+reply_layout kinds.Done = Stop
+reply_layout kinds.Number = a_long Stop
+reply_layout kinds.Bytes = a_blob Stop
+reply_layout kinds.Item = a_blob Stop
+reply_layout kinds.Nothing = Stop
+reply_layout kinds.Names = rows_of (a_part Stop)
+reply_layout kinds.Places = rows_of place
+reply_layout kinds.Share = a_long (a_long (a_long Stop))
+reply_layout kinds.TooLong = a_long Stop
+reply_layout kinds.Absent = Stop
+reply_layout kinds.WrongKind = Stop
+reply_layout kinds.Exists = Stop
+reply_layout kinds.Exhausted = a_long (a_long (a_long Stop))
+reply_layout kinds.StoreFault = Stop
+reply_layout kinds.Damaged = both stamp found
+reply_layout kinds.Stale = a_long optional_long
+reply_layout kinds.AbsentUser = a_word Stop
+reply_layout kinds.TooMuch = a_long Stop
+reply_layout kinds.NoMemory = Stop
+reply_layout kinds.Full = a_long Stop
+
+abbrev pub all_replies : List ReplyKind
+all_replies =
+    kinds.Done ∷ kinds.Number ∷ kinds.Bytes ∷ kinds.Item ∷ kinds.Nothing ∷ kinds.Names ∷ kinds.Places ∷
+    kinds.Share ∷ kinds.TooLong ∷ kinds.Absent ∷ kinds.WrongKind ∷ kinds.Exists ∷ kinds.Exhausted ∷
+    kinds.StoreFault ∷ kinds.Damaged ∷ kinds.Stale ∷ kinds.AbsentUser ∷ kinds.TooMuch ∷ kinds.NoMemory ∷
+    kinds.Full ∷ []
+
+-- a row for each kind
+abbrev pub replies : Table
+replies = table_of reply_byte reply_layout all_replies
 
 -- nothing follows the kind
 abbrev pub is_alone : ReplyKind → Bool

@@ -8,7 +8,8 @@ use Rattle.req_frames.specs.declared.kinds.RequestKind.{RequestKind}
 use Rattle.req_frames.specs.declared.kinds.RequestKind.TheVariants as kinds
 use Rattle.frame_fields.specs.declared.ends.ReadEnd.{ReadEnd}
 use Rattle.frame_fields.specs.Fields.{Field, Byte, Word, Long, Text, After}
-use Rattle.frame_fields.specs.FrameLayouts.{Layout, Stop, Table, row_of}
+use Rattle.frame_fields.specs.FrameLayouts.{Layout, Stop, Table}
+use Rattle.req_frames.specs.Tables.{table_of}
 use Rattle.frame_fields.specs.Reads.{ReadsKind}
 use Rattle.frame_fields.specs.Parts.{a_word, a_long, a_blob, a_path, an_after, a_kind, kind_byte}
 use Rattle.frame_fields.specs.Frames.{frame_of, IsFrameBody, IsBadFrame}
@@ -42,43 +43,45 @@ request_byte kinds.Report = 24
 request_byte kinds.Share = 25
 request_byte kinds.Bye = 26
 
-abbrev row : RequestKind → Layout → ℕ × Layout
-row kind layout = (request_byte kind, layout)
-
--- the kinds, and what follows each
-abbrev pub requests : Table
-requests =
-    row kinds.Hello (a_word Stop)
-    ∷ row kinds.Make (a_path (a_kind (a_long Stop)))
-    ∷ row kinds.DropTree (a_path Stop)
-    ∷ row kinds.List (a_path (an_after Stop))
-    ∷ row kinds.Top (an_after Stop)
-    ∷ row kinds.Renew (a_path (a_long Stop))
-    ∷ row kinds.Lease (a_path Stop)
-    ∷ row kinds.Append (a_path (a_blob Stop))
-    ∷ row kinds.Read (a_path (a_long (a_word Stop)))
-    ∷ row kinds.Length (a_path Stop)
-    ∷ row kinds.Push (a_path (a_blob Stop))
-    ∷ row kinds.Pop (a_path Stop)
-    ∷ row kinds.Front (a_path Stop)
-    ∷ row kinds.Count (a_path Stop)
-    ∷ row kinds.Put (a_path (a_blob (a_blob Stop)))
-    ∷ row kinds.Get (a_path (a_blob Stop))
-    ∷ row kinds.Remove (a_path (a_blob Stop))
-    ∷ row kinds.Park (a_path Stop)
-    ∷ row kinds.Load (a_path Stop)
-    ∷ row kinds.Map (a_path (a_long Stop))
-    ∷ row kinds.ReadSlice (a_word (a_long (a_word (a_word Stop))))
-    ∷ row kinds.GetSlice (a_word (a_long (a_blob Stop)))
-    ∷ row kinds.PutSlice (a_word (a_long (a_blob (a_blob Stop))))
-    ∷ row kinds.Report (a_long Stop)
-    ∷ row kinds.Share Stop
-    ∷ row kinds.Bye Stop
-    ∷ []
-
 -- what follows a kind
 abbrev pub request_layout : RequestKind → Layout
-request_layout kind = row_of requests (request_byte kind)
+request_layout kinds.Hello = a_word Stop
+request_layout kinds.Make = a_path (a_kind (a_long Stop))
+request_layout kinds.DropTree = a_path Stop
+request_layout kinds.List = a_path (an_after Stop)
+request_layout kinds.Top = an_after Stop
+request_layout kinds.Renew = a_path (a_long Stop)
+request_layout kinds.Lease = a_path Stop
+request_layout kinds.Append = a_path (a_blob Stop)
+request_layout kinds.Read = a_path (a_long (a_word Stop))
+request_layout kinds.Length = a_path Stop
+request_layout kinds.Push = a_path (a_blob Stop)
+request_layout kinds.Pop = a_path Stop
+request_layout kinds.Front = a_path Stop
+request_layout kinds.Count = a_path Stop
+request_layout kinds.Put = a_path (a_blob (a_blob Stop))
+request_layout kinds.Get = a_path (a_blob Stop)
+request_layout kinds.Remove = a_path (a_blob Stop)
+request_layout kinds.Park = a_path Stop
+request_layout kinds.Load = a_path Stop
+request_layout kinds.Map = a_path (a_long Stop)
+request_layout kinds.ReadSlice = a_word (a_long (a_word (a_word Stop)))
+request_layout kinds.GetSlice = a_word (a_long (a_blob Stop))
+request_layout kinds.PutSlice = a_word (a_long (a_blob (a_blob Stop)))
+request_layout kinds.Report = a_long Stop
+request_layout kinds.Share = Stop
+request_layout kinds.Bye = Stop
+
+abbrev pub all_requests : List RequestKind
+all_requests =
+    kinds.Hello ∷ kinds.Make ∷ kinds.DropTree ∷ kinds.List ∷ kinds.Top ∷ kinds.Renew ∷ kinds.Lease ∷ kinds.Append ∷
+    kinds.Read ∷ kinds.Length ∷ kinds.Push ∷ kinds.Pop ∷ kinds.Front ∷ kinds.Count ∷ kinds.Put ∷ kinds.Get ∷
+    kinds.Remove ∷ kinds.Park ∷ kinds.Load ∷ kinds.Map ∷ kinds.ReadSlice ∷ kinds.GetSlice ∷ kinds.PutSlice ∷
+    kinds.Report ∷ kinds.Share ∷ kinds.Bye ∷ []
+
+-- a row for each kind
+abbrev pub requests : Table
+requests = table_of request_byte request_layout all_requests
 
 -- a name and no more follows the kind
 abbrev pub is_named : RequestKind → Bool

@@ -67,16 +67,16 @@ fn reply_of(kind: Kind, alloc: Global, bytes: &[u8]) -> Result<Reply, ReadEnd>
         | Kind::Exists
         | Kind::StoreFault
         | Kind::NoMemory => read_as!(alloc, bytes, () => alone(kind)),
-        Kind::Number
-        | Kind::TooLong
-        | Kind::TooMuch
-        | Kind::Full => read_as!(alloc, bytes, (number, ()) => of_number(kind, number)),
+        Kind::Number | Kind::TooLong | Kind::TooMuch | Kind::Full =>
+            read_as!(alloc, bytes, (number, ()) => of_number(kind, number)),
         Kind::Bytes => read_as!(alloc, bytes, (bytes, ()) => Reply::Bytes(bytes)),
         Kind::Item => read_as!(alloc, bytes, (item, ()) => Reply::Item(item)),
         Kind::Names => read_as!(alloc, bytes, Rows { items } => Reply::Names(items)),
         Kind::Places => read_as!(alloc, bytes, Rows { items } => Reply::Places(items)),
-        Kind::Share => read_as!(alloc, bytes, (demand, (credits, (given, ()))) => Reply::Share { demand, credits, given }),
-        Kind::Exhausted => read_as!(alloc, bytes, (need, (used, (granted, ()))) => Reply::Exhausted { need, used, granted }),
+        Kind::Share => read_as!(alloc, bytes, (demand, (credits, (given, ()))) =>
+            Reply::Share { demand, credits, given }),
+        Kind::Exhausted => read_as!(alloc, bytes, (need, (used, (granted, ()))) =>
+            Reply::Exhausted { need, used, granted }),
         Kind::Damaged => read_as!(alloc, bytes, (kept, found) => Reply::Damaged { kept, found }),
         Kind::Stale => read_as!(alloc, bytes, (asked, now) => Reply::Stale { asked, now }),
         Kind::AbsentUser => read_as!(alloc, bytes, (users, ()) => Reply::AbsentUser { users }),

@@ -63,7 +63,8 @@ fn request_of(kind: Kind, alloc: Global, bytes: &[u8]) -> Result<Request, ReadEn
 {
     match kind {
         Kind::Hello => read_as!(alloc, bytes, (user, ()) => Request::Hello { user }),
-        Kind::Make => read_as!(alloc, bytes, (path, (kind, (span, ()))) => Request::Make { path, kind, span }),
+        Kind::Make => read_as!(alloc, bytes, (path, (kind, (span, ()))) =>
+            Request::Make { path, kind, span }),
         Kind::DropTree
         | Kind::Lease
         | Kind::Length
@@ -75,16 +76,19 @@ fn request_of(kind: Kind, alloc: Global, bytes: &[u8]) -> Result<Request, ReadEn
         Kind::List => read_as!(alloc, bytes, (path, (after, ())) => Request::List { path, after }),
         Kind::Top => read_as!(alloc, bytes, (after, ()) => Request::Top { after }),
         Kind::Renew => read_as!(alloc, bytes, (path, (span, ())) => Request::Renew { path, span }),
-        Kind::Append
-        | Kind::Push
-        | Kind::Get
-        | Kind::Remove => read_as!(alloc, bytes, (path, (bytes, ())) => named_blob(kind, path, bytes)),
-        Kind::Read => read_as!(alloc, bytes, (path, (from, (len, ()))) => Request::Read { path, from, len }),
-        Kind::Put => read_as!(alloc, bytes, (path, (key, (value, ()))) => Request::Put { path, key, value }),
+        Kind::Append | Kind::Push | Kind::Get | Kind::Remove =>
+            read_as!(alloc, bytes, (path, (bytes, ())) => named_blob(kind, path, bytes)),
+        Kind::Read => read_as!(alloc, bytes, (path, (from, (len, ()))) =>
+            Request::Read { path, from, len }),
+        Kind::Put => read_as!(alloc, bytes, (path, (key, (value, ()))) =>
+            Request::Put { path, key, value }),
         Kind::Map => read_as!(alloc, bytes, (path, (from, ())) => Request::Map { path, from }),
-        Kind::ReadSlice => read_as!(alloc, bytes, (slice, (number, (from, (len, ())))) => Request::ReadSlice { slice, number, from, len }),
-        Kind::GetSlice => read_as!(alloc, bytes, (slice, (number, (key, ()))) => Request::GetSlice { slice, number, key }),
-        Kind::PutSlice => read_as!(alloc, bytes, (slice, (number, (key, (value, ())))) => Request::PutSlice { slice, number, key, value }),
+        Kind::ReadSlice => read_as!(alloc, bytes, (slice, (number, (from, (len, ())))) =>
+            Request::ReadSlice { slice, number, from, len }),
+        Kind::GetSlice => read_as!(alloc, bytes, (slice, (number, (key, ()))) =>
+            Request::GetSlice { slice, number, key }),
+        Kind::PutSlice => read_as!(alloc, bytes, (slice, (number, (key, (value, ())))) =>
+            Request::PutSlice { slice, number, key, value }),
         Kind::Report => read_as!(alloc, bytes, (demand, ()) => Request::Report { demand }),
         Kind::Share => read_as!(alloc, bytes, () => Request::Share),
         Kind::Bye => read_as!(alloc, bytes, () => Request::Bye),
