@@ -9,14 +9,12 @@ ghost use Rattle.far_io.specs.Sends.{Sends};
 ghost use Rattle.script_text.specs.declared.outcome.TheConstants.{LINE_ROOM};
 ghost use Rattle.script_text.specs.declared.rows.TheConstants.{NUMBER_ROOM};
 ghost use Rattle.script_text.specs.Words.{ended, IsPut};
-ghost use Rattle.script_text.specs.Damages.{damage_words};
 ghost use Rattle.script_text.specs.Outcomes.{reply_words, outcome_words, outcome_text, OutcomeFits, IsOutcomeLine};
 
 use crate::damages::{DAMAGE_ROOM, push_damage};
 use crate::rows::{NUMBER_ROOM, push_line};
 use far_asks::{Outcome, Reply};
 use far_io::{Piece, Sink, WriteFault, flush, make_room, push_escaped};
-use far_words::{Found, Stamp};
 
 /// The most bytes of a line, apart from an escaped text at its end.
 const LINE_ROOM: usize = DAMAGE_ROOM;
@@ -25,7 +23,9 @@ const LINE_ROOM: usize = DAMAGE_ROOM;
 
 /// Puts a line of a word and numbers.
 fn push_numbered<'a>(piece: &mut Piece, word: &[u8], numbers: &[u64]) -> Option<&'a [u8]>
-    requires { length piece.old + length word.now + NUMBER_ROOM * length numbers.now + 1 ≤ 4096 }
+    requires room { length piece.old + LINE_ROOM ≤ 4096 }
+    requires short { length word.now ≤ 10 }
+    requires few { length numbers.now ≤ 3 }
     ensures { IsPut piece.old (word.now ∷ map decimal numbers.now) piece.new (option_copied result) }
 {
     push_line(piece, word, numbers);
@@ -34,21 +34,13 @@ fn push_numbered<'a>(piece: &mut Piece, word: &[u8], numbers: &[u64]) -> Option<
 
 /// Puts a line of a word and bytes, up to these.
 fn push_before<'a>(piece: &mut Piece, word: &[u8], bytes: &'a [u8]) -> Option<&'a [u8]>
-    requires { length piece.old + length word.now + 1 ≤ 4096 }
+    requires room { length piece.old + LINE_ROOM ≤ 4096 }
+    requires short { length word.now ≤ 10 }
     ensures { IsPut piece.old (word.now ∷ escaped bytes.now ∷ []) piece.new (option_copied result) }
 {
     piece.push_all(word);
     piece.push(b' ');
     Some(bytes)
-}
-
-/// Puts the line of a block that isn't as it was parked.
-fn push_damaged<'a>(piece: &mut Piece, kept: &Stamp, found: &Found) -> Option<&'a [u8]>
-    requires { length piece.old + LINE_ROOM ≤ 4096 }
-    ensures { IsPut piece.old (damage_words kept.now found.now) piece.new (option_copied result) }
-{
-    push_damage(piece, kept, found);
-    None
 }
 
 /// Puts the line of a reply.
@@ -73,7 +65,10 @@ fn push_reply<'a>(piece: &mut Piece, reply: &'a Reply) -> Option<&'a [u8]>
             granted,
         } => push_numbered(piece, b"exhausted", &[*need, *used, *granted]),
         Reply::StoreFault => push_numbered(piece, b"storefault", &[]),
-        Reply::Damaged { kept, found } => push_damaged(piece, kept, found),
+        Reply::Damaged { kept, found } => {
+            push_damage(piece, kept, found);
+            None
+        }
         Reply::AbsentUser { users } => push_numbered(piece, b"absentuser", &[*users as u64]),
         Reply::NoMemory => push_numbered(piece, b"nomemory", &[]),
     }
@@ -126,7 +121,6 @@ fn put_outcome<O: Sink>(
     }
 }
 
-#[tactic(auto, using(crate::proofs::Cutting::outcome_text_injective, crate::proofs::Cutting::outcome_line))]
 /// Writes the outcome's line, with its line end, in pieces of 4 KiB. After a fault the sink took a prefix of it. It takes
 /// no memory.
 pub fn write_outcome<O: Sink>(outcome: &Outcome, sink: &mut O) -> Result<(), WriteFault>
