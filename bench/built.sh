@@ -8,11 +8,15 @@ use_far_memory() {
   program=$here/../crates/far_memory/out/far_memory
 }
 
-use_far_bench() {
+# use_bench NAME: the program of measurements of that crate
+use_bench() {
   # 'rt run' proves and builds where something has changed, and then runs the program
-  if ! (cd "$here/../crates/far_bench" && rt run -- check) < /dev/null >&2; then
-    echo "far_bench was not built, or its check failed" >&2
+  if ! (cd "$here/../crates/$1" && rt run -- check) < /dev/null >&2; then
+    echo "$1 was not built, or its check failed" >&2
     exit 1
   fi
-  program=$here/../crates/far_bench/out/far_bench
+  program=$here/../crates/$1/out/$1
 }
+
+# figure NAME LINE: a figure of a line that such a program printed
+figure() { awk -v name="$1" '{ for (i = 2; i < NF; i += 2) if ($i == name) print $(i + 1) }' <<< "$2"; }

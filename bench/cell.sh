@@ -8,7 +8,7 @@ work=$(mktemp -d)
 trap 'rm -rf "$work"' EXIT
 
 . "$here/built.sh"
-use_far_bench
+use_bench bench_cell
 
 # measure KIND THREADS: nanoseconds a call, processor seconds and the number after all calls, of the run with the least time of three
 measure() {
@@ -17,9 +17,9 @@ measure() {
     TIMEFORMAT='%U %S'
     { time "$program" "$1" "$2" "$calls" > "$work/out"; } 2> "$work/time" || { cat "$work/time" >&2; return 1; }
     line=$(cat "$work/out")
-    each=${line#*calls, } each=${each%% ns*}
+    each=$(figure time "$line")
     used=$(awk '{ print $1 + $2 }' "$work/time")
-    if [ -z "$best" ] || [ "$each" -lt "${best%% *}" ]; then best="$each $used ${line##* }"; fi
+    if [ -z "$best" ] || [ "$each" -lt "${best%% *}" ]; then best="$each $used $(figure number "$line")"; fi
   done
   echo "$best"
 }

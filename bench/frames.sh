@@ -4,12 +4,12 @@
 set -euo pipefail
 here=$(cd "$(dirname "${BASH_SOURCE[0]}")" && pwd)
 . "$here/built.sh"
-use_far_bench
+use_bench bench_frames
 echo "processors $(nproc), load $(cut -d' ' -f1-3 /proc/loadavg)"
 measure() {
   figures=$("$program" frames "$1" "$2" "$3")
-  echo "$4: $figures" | awk '{ for (i = 1; i <= NF; i++) if ($i == "encode") e = $(i + 1); else if ($i == "decode") d = $(i + 1)
-    printf "%s; %.1f million encoded and %.1f million decoded a second\n", $0, 1000 / (e > 0 ? e : 1), 1000 / (d > 0 ? d : 1) }'
+  awk -v what="$4" -v figures="$figures" -v e="$(figure encode "$figures")" -v d="$(figure decode "$figures")" 'BEGIN {
+    printf "%s: %s; %.1f million encoded and %.1f million decoded a second\n", what, figures, 1000 / (e > 0 ? e : 1), 1000 / (d > 0 ? d : 1) }'
 }
 measure append 64 1000000 "append of 64 bytes"
 measure append 65536 20000 "append of 64 KiB"

@@ -5,7 +5,9 @@
 set -euo pipefail
 here=$(cd "$(dirname "${BASH_SOURCE[0]}")" && pwd)
 . "$here/built.sh"
-use_far_bench
+use_bench bench_image
+image_program=$program
+use_bench bench_home
 echo "processors $(nproc), load $(cut -d' ' -f1-3 /proc/loadavg)"
 calls=1000
 for size in 64 65536; do
@@ -13,9 +15,8 @@ for size in 64 65536; do
     for piece in 64 65536; do
       [ "$size" = 65536 ] && [ "$blocks" = 1000000 ] && continue # 64 GiB
       figures=$("$program" home "$size" "$blocks" "$piece" "$calls")
-      length=$(echo "$figures" | awk '{ print $2 }')
-      if [ "$length" != $((size * blocks + piece * calls)) ]; then
-        echo "slices of $size bytes, $blocks blocks, calls of $piece bytes: the file is $length bytes long" >&2
+      if [ "$(figure length "$figures")" != $((size * blocks + piece * calls)) ]; then
+        echo "slices of $size bytes, $blocks blocks, calls of $piece bytes: $figures" >&2
         exit 1
       fi
       echo "slices of $size bytes, $blocks blocks, calls of $piece bytes: $figures"
@@ -23,14 +24,14 @@ for size in 64 65536; do
   done
 done
 for size in 64 4096 65536; do
-  images=$("$program" image "$size" "$calls")
+  images=$("$image_program" image "$size" "$calls")
   for blocks in 1000 1000000; do
     [ "$size" = 65536 ] && [ "$blocks" = 1000000 ] && continue
     figures=$("$program" parks "$size" "$blocks" "$calls")
-    if [ "${figures% park *}" != "parked $calls read $calls loaded $calls" ]; then
+    if [ "${figures% park *}" != "parks parked $calls found $calls loaded $calls" ]; then
       echo "$blocks blocks of $size bytes: $figures" >&2
       exit 1
     fi
-    echo "$blocks blocks of $size bytes: $figures; images: $images"
+    echo "$blocks blocks of $size bytes: $figures; $images"
   done
 done

@@ -7,15 +7,15 @@ set -euo pipefail
 here=$(cd "$(dirname "${BASH_SOURCE[0]}")" && pwd)
 runs=${1:-7} seed=${2:-20261201}
 . "$here/built.sh"
-use_far_bench
+use_bench bench_quantum
 
 echo "processors $(nproc), load $(cut -d' ' -f1-3 /proc/loadavg), $runs runs"
 echo "users  demands up to        small     greatest   greatest / small              mixed   mixed / small"
 for users in 10 100 1000; do
   for times in 2 3 1024; do
     for ((run = 0; run < runs; run++)); do
-      "$program" quantum "$users" $((2000000 / users > 20000 ? 20000 : 2000000 / users)) "$times" $((seed + run)) || exit 1
-    done | tr -d , | awk '{ print $2, $5, $5 / $2, $8, $8 / $2 }' | awk -v users="$users" -v times="$times" '
+      "$program" "$users" $((2000000 / users > 20000 ? 20000 : 2000000 / users)) "$times" $((seed + run)) || exit 1
+    done | awk '{ time[$1] = $NF } $1 == "mixed" { s = time["small"]; g = time["greatest"]; m = $NF; print s, g, g / s, m, m / s }' | awk -v users="$users" -v times="$times" '
       function middle(values, count,    i, j, t) {
         for (i = 2; i <= count; i++) for (j = i; j > 1 && values[j] < values[j - 1]; j--) { t = values[j]; values[j] = values[j - 1]; values[j - 1] = t }
         return values[int((count + 1) / 2)]

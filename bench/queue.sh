@@ -4,16 +4,17 @@
 set -euo pipefail
 here=$(cd "$(dirname "${BASH_SOURCE[0]}")" && pwd)
 . "$here/built.sh"
-use_far_bench
+use_bench bench_home
 echo "processors $(nproc), load $(cut -d' ' -f1-3 /proc/loadavg)"
 items=1000000
 for size in 65536 1024; do
   for run in 1 2 3; do
-    figures=$("$program" queue "$size" "$items" 100)
-    if [ "${figures%% push *}" != "sum $((7 * items))" ] || [ "${figures#*; deque: }" = "$figures" ]; then
-      echo "slices of $size bytes: $figures" >&2
+    lines=$("$program" queue "$size" "$items" 100)
+    queue=${lines%%$'\n'*} deque=${lines#*$'\n'}
+    if [ "$(figure sum "$queue")" != $((7 * items)) ] || [ "$(figure sum "$deque")" != $((7 * items)) ]; then
+      echo "slices of $size bytes: $lines" >&2
       exit 1
     fi
-    echo "slices of $size bytes, run $run: $figures"
+    echo "slices of $size bytes, run $run: $queue; $deque"
   done
 done

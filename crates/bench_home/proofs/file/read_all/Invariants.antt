@@ -1,0 +1,5 @@
+use Rattle.block_file.specs.Files.{IsSound}
+use Rattle.bench_home.proofs.file.read_all.Given as goal
+
+abbrev pub invariant-loop-call : goal.invariant-loop-call
+invariant-loop-call g l = IsSound l.home.seats l.file

@@ -1,0 +1,2 @@
+-- the line of a name and its figures
+pub mod Lines

@@ -1,5 +1,0 @@
-use Rattle.block_file.specs.Files.{IsSound}
-use Rattle.far_bench.proofs.home.read_all.Given as goal
-
-abbrev pub invariant-loop-call : goal.invariant-loop-call
-invariant-loop-call g l = IsSound l.home.seats l.file
