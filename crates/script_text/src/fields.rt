@@ -104,9 +104,12 @@ pub fn path_and_bytes(
 
 /// The path, the kind and the number that the three words which are left spell.
 pub fn path_kind_and_span(words: Option<&[u8]>) -> Option<(Path, Kind, u64)>
-    ensures fields { IfSome result (λ fields. words_after (option_copied words.entry) ≡ fields.0 ∷ kind_word fields.1 ∷ decimal fields.2 ∷ []) }
+    ensures fields { IfSome result (λ fields.
+        words_after (option_copied words.entry) ≡ fields.0 ∷ kind_word fields.1 ∷ decimal fields.2 ∷ []) }
     ensures grammar { IfSome result (λ fields. IsTrue (Paths.is_path fields.0)) }
-    ensures nothing { IfNone result ((path : List ℕ) (kind : Kind) (span : ℕ) → IsTrue (Paths.is_path path) → span < 2 ^ 64 → words_after (option_copied words.entry) ≢ path ∷ kind_word kind ∷ decimal span ∷ []) }
+    ensures nothing { IfNone result ((path : List ℕ) (kind : Kind) (span : ℕ)
+        → IsTrue (Paths.is_path path) → span < 2 ^ 64
+        → words_after (option_copied words.entry) ≢ path ∷ kind_word kind ∷ decimal span ∷ []) }
 {
     let (path, words) = next_path(words)?;
     let (kind, words) = next_kind(words)?;
@@ -116,9 +119,12 @@ pub fn path_kind_and_span(words: Option<&[u8]>) -> Option<(Path, Kind, u64)>
 
 /// The path and the two numbers that the three words which are left spell, the second a `u32`.
 pub fn path_from_and_len(words: Option<&[u8]>) -> Option<(Path, u64, u32)>
-    ensures fields { IfSome result (λ fields. words_after (option_copied words.entry) ≡ fields.0 ∷ decimal fields.1 ∷ decimal fields.2 ∷ []) }
+    ensures fields { IfSome result (λ fields.
+        words_after (option_copied words.entry) ≡ fields.0 ∷ decimal fields.1 ∷ decimal fields.2 ∷ []) }
     ensures grammar { IfSome result (λ fields. IsTrue (Paths.is_path fields.0)) }
-    ensures nothing { IfNone result ((path : List ℕ) (from len : ℕ) → IsTrue (Paths.is_path path) → from < 2 ^ 64 → len < 2 ^ 32 → words_after (option_copied words.entry) ≢ path ∷ decimal from ∷ decimal len ∷ []) }
+    ensures nothing { IfNone result ((path : List ℕ) (from len : ℕ)
+        → IsTrue (Paths.is_path path) → from < 2 ^ 64 → len < 2 ^ 32
+        → words_after (option_copied words.entry) ≢ path ∷ decimal from ∷ decimal len ∷ []) }
 {
     let (path, words) = next_path(words)?;
     let (from, words) = next_number(words, u64::MAX)?;

@@ -1,18 +1,17 @@
 //! Outcome lines.
 
-ghost use Rattle.std.specs.Prelude.{◌≡◌, ◌+◌, ◌*◌, ◌≤◌, ◌∷◌, [], ◌++◌, length, map, decimal, OnErr, OnOk};
+ghost use Rattle.std.specs.Prelude.{◌≡◌, ◌+◌, ◌≤◌, ◌∷◌, [], ◌++◌, length, map, decimal, OnErr, OnOk};
 ghost use Rattle.std.specs.Option.{option_copied};
 ghost use Rattle.far_io.specs.Faults.{HasCause};
 ghost use Rattle.far_io.specs.Adds.{Adds, AddsPrefix};
 ghost use Rattle.far_io.specs.Escapes.{escaped};
 ghost use Rattle.far_io.specs.Sends.{Sends};
 ghost use Rattle.script_text.specs.declared.outcome.TheConstants.{LINE_ROOM};
-ghost use Rattle.script_text.specs.declared.rows.TheConstants.{NUMBER_ROOM};
 ghost use Rattle.script_text.specs.Words.{ended, IsPut};
 ghost use Rattle.script_text.specs.Outcomes.{reply_words, outcome_words, outcome_text, OutcomeFits, IsOutcomeLine};
 
 use crate::damages::{DAMAGE_ROOM, push_damage};
-use crate::rows::{NUMBER_ROOM, push_line};
+use crate::rows::push_line;
 use far_asks::{Outcome, Reply};
 use far_io::{Piece, Sink, WriteFault, flush, make_room, push_escaped};
 
