@@ -6,4 +6,5 @@
 pub mod frames;
 mod request;
 
-pub use request::{Kind, MOST_IN_REQUEST, Outcome, Reply, Request};
+pub use far_words::Kind;
+pub use request::{MOST_IN_REQUEST, Outcome, Reply, Request};

@@ -1,17 +1,8 @@
 //! What a user asks for, and what it is told.
-use far_words::{Blob, Found, Path, Stamp};
+use far_words::{Blob, Found, Kind, Path, Stamp};
 
 /// The most bytes that one request appends or reads.
 pub const MOST_IN_REQUEST: u64 = 65_536;
-
-/// What a name stands for.
-#[derive(Clone, Copy, PartialEq, Eq, Debug)]
-pub enum Kind {
-    /// Bytes that grow at their end.
-    File,
-    /// Items, first in, first out.
-    Queue,
-}
 
 /// What a user asks of its own names.
 #[derive(PartialEq, Eq, Debug, Drop)]

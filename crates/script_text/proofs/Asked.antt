@@ -7,8 +7,8 @@ use Rattle.std.proofs.lemmas.Bool.{false≢true, and_from, eq-eqb}
 use Rattle.far_io.specs.Words.{HasNoSpace}
 use Rattle.far_io.proofs.Escapes.{escaped_one_word}
 use Rattle.far_io.proofs.WordLaws.{HaveNoSpace, decimal_one_word, no_space_by_test}
-use Rattle.far_asks.specs.declared.request.Kind.{Kind}
-use Rattle.far_asks.specs.declared.request.Kind.TheVariants.{File, Queue}
+use Rattle.far_words.specs.declared.kind.Kind.{Kind}
+use Rattle.far_words.specs.declared.kind.Kind.TheVariants.{Dir, File, Queue, Table}
 use Rattle.far_asks.specs.declared.request.Request.{Request}
 use Rattle.far_asks.specs.declared.request.Request.TheVariants as request
 use Rattle.script_text.specs.declared.verb.PathVerb.{PathVerb}
@@ -71,8 +71,10 @@ word_told : (verb other : Verb) → verb_word verb ≡ verb_word other → verb 
 word_told verb other same = sym (verb_back verb) ∙ ap (verb_among all_verbs) same ∙ verb_back other
 
 kind_one_word : (kind : Kind) → HasNoSpace (kind_word kind)
+kind_one_word Dir = no_space_by_test (codes "dir") refl
 kind_one_word File = no_space_by_test (codes "file") refl
 kind_one_word Queue = no_space_by_test (codes "queue") refl
+kind_one_word Table = no_space_by_test (codes "table") refl
 
 pub fields_apart : (asked : Asked) → IsAskedWithin asked → HaveNoSpace (asked_fields asked)
 fields_apart (AskMake path kind span) within = (word_no_space path (path_word path within.0), (kind_one_word kind, (decimal_one_word span within.1, tt)))
@@ -88,8 +90,10 @@ asked_from (OfBytes verb) fields = AskBytes verb (word_at fields 0) (bytes_at fi
 asked_from (OfPath verb) fields = AskPath verb (word_at fields 0)
 
 asked_back : (asked : Asked) → IsAskedWithin asked → asked_from (asked_verb asked) (asked_fields asked) ≡ asked
+asked_back (AskMake path Dir span) within = absurd within.2
 asked_back (AskMake path File span) within = ap (AskMake path File) (number_back span within.1)
 asked_back (AskMake path Queue span) within = ap (AskMake path Queue) (number_back span within.1)
+asked_back (AskMake path Table span) within = absurd within.2
 asked_back (AskRead path from len) within = λ i. AskRead path (number_back from within.1 i) (number_back len (wide len within.2) i)
 asked_back (AskBytes verb path bytes) within = ap (AskBytes verb path) (bytes_back bytes)
 asked_back (AskPath verb path) within = refl

@@ -1,10 +1,10 @@
 -- What a request asks, by the shape of its line: the verb, and the words after that of the user.
-use Rattle.std.specs.Prelude.{ℕ, ◌^◌, ◌<◌, IsTrue, List, [], ◌∷◌, codes}
+use Rattle.std.specs.Prelude.{ℕ, ◌^◌, ◌<◌, Bool, true, false, IsTrue, List, [], ◌∷◌, codes}
 use Rattle.std.specs.Fmt.{decimal}
 use Rattle.far_io.specs.Escapes.{escaped, AreBytes}
 use Rattle.far_words.specs.Paths.{is_path}
-use Rattle.far_asks.specs.declared.request.Kind.{Kind}
-use Rattle.far_asks.specs.declared.request.Kind.TheVariants.{File, Queue}
+use Rattle.far_words.specs.declared.kind.Kind.{Kind}
+use Rattle.far_words.specs.declared.kind.Kind.TheVariants.{Dir, File, Queue, Table}
 use Rattle.far_asks.specs.declared.request.Request.{Request}
 use Rattle.far_asks.specs.declared.request.Request.TheVariants.{Make, Append, Read, Length, Push, Pop, Front, Count, Park, Load}
 use Rattle.script_text.specs.declared.verb.PathVerb.{PathVerb}
@@ -15,8 +15,16 @@ use Rattle.script_text.specs.declared.verb.Verb.{Verb}
 use Rattle.script_text.specs.declared.verb.Verb.TheVariants as verb
 
 abbrev pub kind_word : Kind → List ℕ
+kind_word Dir = codes "dir"
 kind_word File = codes "file"
 kind_word Queue = codes "queue"
+kind_word Table = codes "table"
+
+-- the kinds of which a line can make a name as yet
+abbrev pub is_read : Kind → Bool
+is_read File = true
+is_read Queue = true
+is_read kind = false
 
 pub data Asked : Type 0 where
   AskMake : (path : List ℕ) (kind : Kind) (span : ℕ) → Asked
@@ -51,7 +59,7 @@ asked_fields (AskPath by path) = path ∷ []
 
 -- each field is within its limit, and a path is one
 abbrev pub IsAskedWithin : Asked → Type 0
-IsAskedWithin (AskMake path kind span) = IsTrue (is_path path) × (span < 2 ^ 64)
+IsAskedWithin (AskMake path kind span) = IsTrue (is_path path) × (span < 2 ^ 64) × IsTrue (is_read kind)
 IsAskedWithin (AskRead path from len) = IsTrue (is_path path) × (from < 2 ^ 64) × (len < 2 ^ 32)
 IsAskedWithin (AskBytes by path bytes) = IsTrue (is_path path) × AreBytes bytes
 IsAskedWithin (AskPath by path) = IsTrue (is_path path)

@@ -5,7 +5,7 @@ ghost use Rattle.std.specs.Option.{option_copied};
 ghost use Rattle.far_io.specs.Words.{words_after};
 ghost use Rattle.far_io.specs.Escapes.{escaped, AreBytes};
 ghost use Rattle.far_words.specs.Paths;
-ghost use Rattle.script_text.specs.Asked.{kind_word};
+ghost use Rattle.script_text.specs.Asked.{kind_word, is_read};
 
 use crate::verb::is_word;
 use far_asks::Kind;
@@ -39,10 +39,11 @@ pub fn last_path(words: Option<&[u8]>) -> Option<Path>
     Some(path)
 }
 
-/// The kind whose word is the first of these, and the words after it.
+/// The kind whose word is the first of these, and the words after it. No line has the word of a directory or a table.
 pub fn next_kind(words: Option<&[u8]>) -> Option<(Kind, Option<&[u8]>)>
     ensures kind { IfSome result (λ found. words_after (option_copied words.entry) ≡ kind_word found.0 ∷ words_after (option_copied found.1)) }
-    ensures nothing { IfNone result ((kind : Kind) (others : List (List ℕ)) → words_after (option_copied words.entry) ≢ kind_word kind ∷ others) }
+    ensures read { IfSome result (λ found. IsTrue (is_read found.0)) }
+    ensures nothing { IfNone result ((kind : Kind) → IsTrue (is_read kind) → (others : List (List ℕ)) → words_after (option_copied words.entry) ≢ kind_word kind ∷ others) }
 {
     let (word, others) = split_word(words?);
     if is_word(word, b"file") {
@@ -107,8 +108,9 @@ pub fn path_kind_and_span(words: Option<&[u8]>) -> Option<(Path, Kind, u64)>
     ensures fields { IfSome result (λ fields.
         words_after (option_copied words.entry) ≡ fields.0 ∷ kind_word fields.1 ∷ decimal fields.2 ∷ []) }
     ensures grammar { IfSome result (λ fields. IsTrue (Paths.is_path fields.0)) }
+    ensures read { IfSome result (λ fields. IsTrue (is_read fields.1)) }
     ensures nothing { IfNone result ((path : List ℕ) (kind : Kind) (span : ℕ)
-        → IsTrue (Paths.is_path path) → span < 2 ^ 64
+        → IsTrue (Paths.is_path path) → span < 2 ^ 64 → IsTrue (is_read kind)
         → words_after (option_copied words.entry) ≢ path ∷ kind_word kind ∷ decimal span ∷ []) }
 {
     let (path, words) = next_path(words)?;

@@ -97,7 +97,7 @@ fn lines_of_a_name_alone(rt: HostRuntime) -> Result<(), Fail> {
 // Further ones are rows of `rows/`, with what is said of each.
 #[test]
 fn lines_outside_the_grammar(rt: HostRuntime) -> Result<(), Fail> {
-    let table: [&[u8]; 37] = [
+    let table: [&[u8]; 38] = [
         b" ",
         b" draw",
         b"draw 0",
@@ -105,6 +105,7 @@ fn lines_outside_the_grammar(rt: HostRuntime) -> Result<(), Fail> {
         b"grant 0 ",
         b"make 0 f file",
         b"make 0 f dir 1",
+        b"make 0 f table 1",
         b"make 0 q Queue 1",
         b"make 0 f File 1",
         b"make 0 f file 1 2",

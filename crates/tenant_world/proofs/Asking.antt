@@ -1,5 +1,5 @@
 -- What requests come to that move no block.
-use Rattle.std.proofs.Common.{◌≡◌, ℕ, ◌+◌, ◌-◌, ◌^◌, ◌<◌, ◌≤◌, min, false, List, length, refl, ap, sym, subst, ◌∙◌, arith, Some, None}
+use Rattle.std.proofs.Common.{◌≡◌, ℕ, ◌+◌, ◌-◌, ◌^◌, ◌<◌, ◌≤◌, min, true, false, List, length, refl, ap, sym, subst, ◌∙◌, arith, Some, None}
 use Rattle.std.specs.Prelude.{All}
 use Rattle.std.specs.Map.{lookup}
 use Rattle.std.specs.BTreeMap.{is_at, insert_entry}
@@ -8,7 +8,7 @@ use Rattle.far_io.specs.Faults.{Faults}
 use Rattle.shelf_link.specs.Told.{Told}
 use Rattle.shelf_link.specs.Blocks as map
 use Rattle.far_words.specs.Paths.{bytes_cmp, parent_of}
-use Rattle.far_asks.specs.declared.request.Kind.{Kind}
+use Rattle.far_words.specs.declared.kind.Kind.{Kind}
 use Rattle.far_asks.specs.declared.request.Request.TheVariants.{Make, Append, Read, Length, Count, Park, Load}
 use Rattle.far_asks.specs.declared.request.Reply.TheVariants.{Done, Number, TooLong, Absent, WrongKind, Exists, NoMemory}
 use Rattle.far_asks.specs.declared.request.TheConstants.{MOST_IN_REQUEST}
@@ -16,7 +16,7 @@ use Rattle.slice_seq.specs.Purses.{Purse}
 use Rattle.far_history.specs.Worlds.{Body, DirBody, FileBody, QueueBody, TableBody, Node, with_node, lease_from}
 use Rattle.std.proofs.lemmas.Bool.{le-ltb}
 use Rattle.far_history.specs.Answers as Answers
-use Rattle.far_history.specs.Answers.{answer, empty_body, is_dir}
+use Rattle.far_history.specs.Answers.{answer, is_served, empty_body, is_dir}
 use Rattle.tenant_world.specs.Reading.{length_reply}
 use Rattle.tenant_world.specs.Popping.{count_reply}
 use Rattle.far_history.specs.Layouts.{Layout, kept_empty}
@@ -68,10 +68,16 @@ module _ {K : Type 0} (told : K → Told) (faults : K → Faults) (old new : Ten
         (λ s sits. let at = node_found s old sits path named found in Asked.refusal-make-exists old.terms.size s.world path kind span _ top at.is)
         refl (λ t layout. refl) (λ s e bare. bare) tt
 
-    pub make_starved : (kind : Kind) (span : ℕ) → lookup (is_at (bytes_cmp path)) old.names ≡ None → parent_of path ≡ None → Serves told faults old (Make path kind span) NoMemory new
-    make_starved kind span none top =
+    pub make_unserved : (kind : Kind) (span : ℕ) → lookup (is_at (bytes_cmp path)) old.names ≡ None → parent_of path ≡ None → is_served kind ≡ false → Serves told faults old (Make path kind span) WrongKind new
+    make_unserved kind span none top unserved =
+        serves_refused told faults old new still keeps (Make path kind span) WrongKind (omega arith) tt same
+        (λ s sits. Asked.refusal-make-unserved old.terms.size s.world path kind span top (node_absent s old sits path none) unserved)
+        refl (λ t layout. refl) (λ s e none. none) tt
+
+    pub make_starved : (kind : Kind) (span : ℕ) → lookup (is_at (bytes_cmp path)) old.names ≡ None → parent_of path ≡ None → is_served kind ≡ true → Serves told faults old (Make path kind span) NoMemory new
+    make_starved kind span none top served =
         serves_excused told faults old new still keeps (Make path kind span) NoMemory (omega arith) tt same
-        (λ s sits. Asked.refusal-make old.terms.size s.world path kind span top (node_absent s old sits path none))
+        (λ s sits. Asked.refusal-make old.terms.size s.world path kind span top (node_absent s old sits path none) served)
         refl (λ t layout. refl) (λ s e bare. bare) (λ s sits lies e before after. refl) (λ tells s lies. tt)
 
     pub length_done : (named : Named) → lookup (is_at (bytes_cmp path)) old.names ≡ Some named → IsFileContent named.content → Serves told faults old (Length path) (Number ((file_of named.content).length)) new
@@ -181,7 +187,7 @@ pub record IsMade {K : Type 0} (told : K → Told) (old : TenantView K) (path : 
   pub names : new.names ≡ insert_entry bytes_cmp old.names path named
   pub home : new.home ≡ old.home
 
-module _ {K : Type 0} (told : K → Told) (faults : K → Faults) (old new : TenantView K) (still : IsStill new.moves) (keeps : Keeps told faults old new) (path : List ℕ) (kind : Kind) (span : ℕ) (named : Named) (made : IsMade told old path named new) (top : parent_of path ≡ None)
+module _ {K : Type 0} (told : K → Told) (faults : K → Faults) (old new : TenantView K) (still : IsStill new.moves) (keeps : Keeps told faults old new) (path : List ℕ) (kind : Kind) (span : ℕ) (named : Named) (made : IsMade told old path named new) (top : parent_of path ≡ None) (served : is_served kind ≡ true)
     (none : lookup (is_at (bytes_cmp path)) old.names ≡ None) (lease : named.lease ≡ min (old.moment + span) (2 ^ 64 - 1))
     (shows : extent_of (empty_body kind) ≡ content_extent named.content) (keeps_it : (size : ℕ) (m : map.Blocks) → IsKeptAs size m named.content (kept_empty kind) (empty_body kind)) where
   abbrev node : State → Node
@@ -226,7 +232,7 @@ module _ {K : Type 0} (told : K → Told) (faults : K → Faults) (old new : Ten
       serves_left told faults old new still (ap (λ (h : HomeView K). h.seats.purse) made.home) keeps (Make path kind span) Done (omega arith) tt
       (λ s sits.
       let absent = node_absent s old sits path none in
-      let answers = Asked.answer-make old.terms.size s.world path kind span top absent in
+      let answers = Asked.answer-make old.terms.size s.world path kind span top absent served in
       record {
         world = with_node s.world path (node s);
         world_is = λ moment. world_done old.terms.size s.world _ moment (Make path kind span) Done Done answers refl;
@@ -234,7 +240,7 @@ module _ {K : Type 0} (told : K → Told) (faults : K → Faults) (old new : Ten
         layout_is = refl;
         sits = sits_made s sits;
         lies = lies_made s sits;
-        right = λ lies e bare nowhere before after. (done_reply old.terms s e (Make path kind span) Done _ answers refl, bare, done_placed old.terms s e (Make path kind span) Done (Asked.refusal-make old.terms.size s.world path kind span top absent) refl nowhere refl);
+        right = λ lies e bare nowhere before after. (done_reply old.terms s e (Make path kind span) Done _ answers refl, bare, done_placed old.terms s e (Make path kind span) Done (Asked.refusal-make old.terms.size s.world path kind span top absent served) refl nowhere refl);
       })
       (λ tells s lies. tt)
       (λ moment is s sits lies unrefused needs. absurd needs)

@@ -1,7 +1,7 @@
 //! What a name stands for.
-ghost use Rattle.std.specs.Prelude.{◌≡◌, ℕ, []};
+ghost use Rattle.std.specs.Prelude.{◌≡◌, ℕ, [], is_some, IfSome};
 ghost use Rattle.shelf_link.specs.Blocks as map;
-ghost use Rattle.far_history.specs.Answers.{empty_body};
+ghost use Rattle.far_history.specs.Answers.{is_served, empty_body};
 ghost use Rattle.far_history.specs.Layouts.{kept_empty};
 ghost use Rattle.block_seats.specs.Seatings.{SeatingView};
 ghost use Rattle.block_file.specs.Files.{IsSound};
@@ -34,16 +34,19 @@ pub struct Named {
     pub content: Content,
 }
 
-/// A content of a kind, without bytes or items, which needs no block.
-pub fn empty_content(alloc: Global, kind: Kind) -> Content
-    ensures shows { content_extent result ≡ extent_of (empty_body kind) }
-    ensures blocks { blocks_of result ≡ [] }
-    ensures sound { (seats : SeatingView) → IsSoundContent seats result }
-    ensures kept { (size : ℕ) (m : map.Blocks) → IsKeptAs size m result (kept_empty kind) (empty_body kind) }
+/// A content of a kind, without bytes or items, which needs no block. No name of another kind can be made as yet.
+pub fn empty_content(alloc: Global, kind: Kind) -> Option<Content>
+    ensures served { is_served kind ≡ is_some result }
+    ensures shows { IfSome result (λ content. content_extent content ≡ extent_of (empty_body kind)) }
+    ensures blocks { IfSome result (λ content. blocks_of content ≡ []) }
+    ensures sound { IfSome result (λ content. (seats : SeatingView) → IsSoundContent seats content) }
+    ensures kept { IfSome result (λ content.
+        (size : ℕ) (m : map.Blocks) → IsKeptAs size m content (kept_empty kind) (empty_body kind)) }
 {
     match kind {
-        Kind::File => Content::File(FileBody::new(alloc)),
-        Kind::Queue => Content::Queue(QueueBody::new(alloc)),
+        Kind::File => Some(Content::File(FileBody::new(alloc))),
+        Kind::Queue => Some(Content::Queue(QueueBody::new(alloc))),
+        _ => None,
     }
 }
 

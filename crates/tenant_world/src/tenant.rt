@@ -6,7 +6,7 @@ ghost use Rattle.slice_seq.specs.Purses as Purses;
 ghost use Rattle.karma_rule.specs.Limits.{IsStore};
 ghost use Rattle.far_words.specs.Moves.{AreInOrder};
 ghost use Rattle.far_words.specs.Paths.{parent_of};
-ghost use Rattle.far_asks.specs.declared.request.Kind.{Kind};
+ghost use Rattle.far_words.specs.declared.kind.Kind.{Kind};
 ghost use Rattle.far_asks.specs.declared.request.Request.TheVariants.{Make, Append, Read, Length, Park, Load};
 ghost use Rattle.far_asks.specs.declared.request.Outcome.TheVariants.{Reply as Replied};
 ghost use Rattle.far_history.specs.Entries.{Entry, Ask};
@@ -276,8 +276,10 @@ impl<K: Shelf> Tenant<K> {
         if self.names.contains_key(&path) {
             return Reply::Exists;
         }
+        let Some(content) = empty_content(self.alloc, kind) else {
+            return Reply::WrongKind;
+        };
         let lease = self.moment.saturating_add(span);
-        let content = empty_content(self.alloc, kind);
         match self.names.insert(path, Named { lease, content }) {
             Ok(_) => Reply::Done,
             Err(_) => Reply::NoMemory,

@@ -1,6 +1,6 @@
 use Rattle.std.proofs.Common.{[], refl, sym, ap, subst, ◌∙◌}
-use Rattle.far_asks.specs.declared.request.Kind.{Kind}
-use Rattle.far_history.specs.Answers.{empty_body}
+use Rattle.far_words.specs.declared.kind.Kind.{Kind}
+use Rattle.far_history.specs.Answers.{is_served, empty_body}
 use Rattle.far_history.specs.Layouts.{KeptFile, kept_empty}
 use Rattle.block_file.specs.Files.{FileView}
 use Rattle.block_queue.specs.Queues.{QueueView}
@@ -12,6 +12,7 @@ use Rattle.tenant_world.proofs.names.empty_content.Goals as goal
 
 pub returns-in-File : goal.returns-in-File
 returns-in-File c = record {
+  served = ap is_served c.in-File.is;
   shows = ap (λ (f : FileView). content_extent (File f)) c.new.ensures.file ∙ ap (λ (k : Kind). extent_of (empty_body k)) (sym c.in-File.is);
   blocks = ap (λ (f : FileView). f.blocks) c.new.ensures.file;
   sound = c.new.ensures.sound;
@@ -21,6 +22,7 @@ returns-in-File c = record {
 
 pub returns-in-Queue : goal.returns-in-Queue
 returns-in-Queue c = record {
+  served = ap is_served c.in-Queue.is;
   shows = ap (λ (q : QueueView). content_extent (Queue q)) c.new-in-Queue.ensures.queue ∙ ap (λ (k : Kind). extent_of (empty_body k)) (sym c.in-Queue.is);
   blocks = ap (λ (q : QueueView). blocks_of (Queue q)) c.new-in-Queue.ensures.queue;
   sound = c.new-in-Queue.ensures.sound;
