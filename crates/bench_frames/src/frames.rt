@@ -7,8 +7,8 @@ ghost use Rattle.req_frames.specs.Requests.{request_fields};
 ghost use Rattle.req_frames.specs.Replies.{reply_fields};
 
 use bench_lines::{Fault, Figure, Words, nanos_each, nanos_since, now, print_line};
-use far_words::Blob;
 use far_asks::frames::{Reply, Request};
+use far_words::Blob;
 use frame_fields::is_frame;
 use req_frames::{decode_reply, decode_request, encode_reply, encode_request};
 use std::alloc::{AllocError, Global};

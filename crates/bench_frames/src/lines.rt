@@ -9,9 +9,9 @@ ghost use Rattle.req_frames.specs.Requests.{request_fields};
 ghost use Rattle.req_frames.specs.Replies.{reply_fields};
 
 use bench_lines::Fault;
+use far_asks::frames::{Reply, Request};
 use far_io::{LineBuf, MemSource, Raw, Source, parse_decimal, read_line};
 use far_words::Blob;
-use far_asks::frames::{Reply, Request};
 use frame_feed::{Feed, next_frame};
 use frame_fields::is_frame;
 use req_frames::{decode_reply, decode_request, encode_reply, encode_request};

@@ -12,7 +12,8 @@ mod queue;
 use bench_lines::{Fault, Words, end_of};
 use std::process::ExitCode;
 
-const USAGE: &str = "home SIZE BLOCKS PIECE CALLS, parks SIZE BLOCKS CALLS, queue SIZE ITEMS BYTES, or check";
+const USAGE: &str =
+    "home SIZE BLOCKS PIECE CALLS, parks SIZE BLOCKS CALLS, queue SIZE ITEMS BYTES, or check";
 
 fn check(rt: &HostRuntime) -> Result<(), Fault> {
     file::measure(rt, file::little(), true)?;

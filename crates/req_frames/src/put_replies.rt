@@ -6,8 +6,8 @@ ghost use Rattle.frame_fields.specs.Frames.{AreShort, HaveShortTexts, Extends, I
 ghost use Rattle.req_frames.specs.Replies.{replies, reply_kind, reply_layout, HasFewRows, reply_rest, reply_fields};
 
 use crate::kinds::ReplyKind;
-use far_words::Blob;
 use far_asks::frames::Reply;
+use far_words::Blob;
 use frame_fields::{
     put_byte, put_counted, put_found, put_long, put_optional, put_stamp, put_text, put_word,
 };

@@ -8,8 +8,8 @@ ghost use Rattle.frame_fields.specs.Frames.{AreShort, HaveShortTexts, Extends, I
 ghost use Rattle.req_frames.specs.Requests.{requests, request_kind, request_layout, request_rest, request_fields};
 
 use crate::kinds::RequestKind;
-use far_words::Blob;
 use far_asks::frames::Request;
+use far_words::Blob;
 use frame_fields::{put_after, put_byte, put_kind, put_long, put_path, put_text, put_word};
 use std::alloc::AllocError;
 

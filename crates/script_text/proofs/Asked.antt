@@ -90,10 +90,10 @@ asked_from (OfBytes verb) fields = AskBytes verb (word_at fields 0) (bytes_at fi
 asked_from (OfPath verb) fields = AskPath verb (word_at fields 0)
 
 asked_back : (asked : Asked) → IsAskedWithin asked → asked_from (asked_verb asked) (asked_fields asked) ≡ asked
-asked_back (AskMake path Dir span) within = absurd within.2
+asked_back (AskMake path Dir span) within = let no = within.2 in cc
 asked_back (AskMake path File span) within = ap (AskMake path File) (number_back span within.1)
 asked_back (AskMake path Queue span) within = ap (AskMake path Queue) (number_back span within.1)
-asked_back (AskMake path Table span) within = absurd within.2
+asked_back (AskMake path Table span) within = let no = within.2 in cc
 asked_back (AskRead path from len) within = λ i. AskRead path (number_back from within.1 i) (number_back len (wide len within.2) i)
 asked_back (AskBytes verb path bytes) within = ap (AskBytes verb path) (bytes_back bytes)
 asked_back (AskPath verb path) within = refl
