@@ -3,8 +3,7 @@
 # sources isn't measured. It is run as it is and not by bin/far_memory, whose own look at the sources would be measured too.
 
 use_far_memory() {
-  # an empty input makes 'plan' end at once
-  "$here/../bin/far_memory" plan 1 1 0 0 < /dev/null
+  "$here/../.ci/built" < /dev/null || exit 1
   program=$here/../crates/far_memory/out/far_memory
 }
 
