@@ -5,7 +5,7 @@ use Rattle.std.specs.Option.{option_to_list}
 use Rattle.std.proofs.lemmas.List.{reverse-append}
 use Rattle.slice_seq.specs.Slice.{SliceView}
 use Rattle.far_asks.specs.declared.request.Outcome.{Outcome}
-use Rattle.far_history.specs.Entries.{Grant}
+use Rattle.far_history.specs.Entries.{Event, Grant}
 use Rattle.far_io.specs.Faults.{Faults}
 use Rattle.shelf_link.specs.Told.{Told}
 use Rattle.far_history.specs.Histories.{State, fits}
@@ -59,3 +59,8 @@ gives_seen {K} told faults seen old new slice rest outcome is has gives top hand
     let others : rest ≡ hand = cc in
     subst (λ (v : CoreView K). Gives told faults v top hand outcome new) is
     (subst (λ (x : SliceView). Gives told faults seen x hand outcome new) one (subst (λ (l : List SliceView). Gives told faults seen slice l outcome new) others gives))
+
+-- and what an event did to a core's tenant, it did to that of the core's view
+pub serves_seen : {K : Type 0} (told : K → Told) (faults : K → Faults) (seen old new : CoreView K) (event : Event) (outcome : Outcome) → seen ≡ old
+    → GrowsTenant told faults seen event outcome new → GrowsTenant told faults old event outcome new
+serves_seen {K} told faults seen old new event outcome is grows = subst (λ (v : CoreView K). GrowsTenant told faults v event outcome new) is grows

@@ -1,10 +1,10 @@
 -- The run that a core stands for grows by an entry.
-use Rattle.std.proofs.Common.{◌≡◌, ℕ, ◌+◌, ◌-◌, ◌^◌, min, ◌<◌, ◌≤◌, ◌&&◌, not, true, false, cond, IsTrue, List, [], ◌∷◌, ◌++◌, length, drop, refl, sym, subst, ap, ◌∙◌, arith, Some}
+use Rattle.std.proofs.Common.{◌≡◌, ℕ, ◌+◌, ◌-◌, ◌^◌, min, ◌<◌, ◌≤◌, ◌&&◌, not, true, false, cond, ◌||◌, Bool, IsTrue, List, [], ◌∷◌, ◌++◌, length, drop, refl, sym, subst, ap, ◌∙◌, arith, Some}
 use Rattle.std.specs.declared.option.Option.{Option}
 use Rattle.std.specs.Option.{option_to_list}
 use Rattle.std.proofs.lemmas.Bool.{lt-ltb, le-ltb}
 use Rattle.std.proofs.lemmas.List.{length-append}
-use Rattle.std.proofs.lemmas.List.Elements.{All-pop}
+use Rattle.std.proofs.lemmas.List.Elements.{All-nil, All-pop, All-push}
 use Rattle.std.proofs.lemmas.List.Sums.{sum_by_push}
 use Rattle.far_io.specs.Faults.{Faults, Follows}
 use Rattle.far_io.proofs.Faults.{follows_itself, follows_on}
@@ -17,16 +17,17 @@ use Rattle.far_asks.specs.declared.request.Reply.TheVariants.{StoreFault, Absent
 use Rattle.far_asks.specs.declared.request.Outcome.{Outcome}
 use Rattle.far_asks.specs.declared.request.Outcome.TheVariants.{Reply as Replied, Slice, HandEmpty, PoolEmpty}
 use Rattle.far_history.specs.Entries.{Event, Ask, Grant, Entry}
-use Rattle.far_history.specs.Histories.{Terms, State, fits, is_new, past_of, first_past, InOrder}
+use Rattle.far_history.specs.Histories.{Terms, State, Past, fits, is_new, past_after, past_of, first_past, InOrder}
 use Rattle.far_history.specs.Legal.{IsLegalHistory}
 use Rattle.far_history.specs.Standing.{IsCaused}
 use Rattle.far_history.proofs.Grows.{InOrder-push}
 use Rattle.tenant_world.specs.Views.{TenantView, count_in, entry_from, terms_of}
-use Rattle.tenant_world.specs.Standing.{Sits, Stands}
+use Rattle.tenant_world.specs.Standing.{Sits, Lies, Stands}
+use Rattle.tenant_world.specs.Telling.{IsUndamaged, ExcusesVoid}
 use Rattle.far_core.specs.declared.service.CoreEvent.{CoreEvent}
 use Rattle.far_core.specs.declared.service.CoreEvent.TheVariants.{Ask as Asking, Draw, Grant as Granting}
 use Rattle.far_core.specs.Runs.{CoreEntry, CoreState, Turn, Own, Answered, fresh_pool, slices_of, first_core, draw_from, grant_from, for_user, turn_of, own_entry, hand_after, after_turn, history_at, core_of, history_of, IsAnswered, IsSoundHistory, IsSoundCore, IsCoreRun, IsLegalFor}
-use Rattle.far_core.specs.Cores.{CoreView, sized, is_empty, is_own, count_at, core_entry, CountsGo, is_store_fault, store_faults, HasHistory, HaveHistories, KeepsStore, StandsForRun, GrowsTenant, Gives, draw_of}
+use Rattle.far_core.specs.Cores.{CoreView, sized, is_empty, is_own, count_at, core_entry, CountsGo, is_store_fault, store_faults, NeedsExcuse, AreExcused, HasHistory, HaveHistories, KeepsStore, StandsForRun, GrowsTenant, Gives, draw_of}
 use Rattle.far_core.proofs.Longer.{core_of-push, IsRunFrom-push, sound_after}
 use Rattle.far_core.proofs.Fresh.{AreFresh, fresh_after, IsOwnOf, own_of_turn, drawn_of_turn, grown_is, history_of-entries}
 use Rattle.far_core.proofs.First.{first_sound, first_history}
@@ -53,6 +54,19 @@ few_push first mid now h e caused from later last few =
     let all = sum_by_push (λ (x : Entry). cond (is_store_fault x.outcome) 1 0) h e in
     let here = few_after e.outcome e.before e.after first (store_faults h) caused later (omega (arith, few, from)) in
     omega (arith, all, here, last)
+
+-- what one of two says, either says
+or_left : (a b : Bool) → IsTrue a → IsTrue (a || b)
+or_left a b is = ap (λ x. x || b) is
+
+or_right : (a b : Bool) → IsTrue b → IsTrue (a || b)
+or_right true b is = refl
+or_right false b is = is
+
+-- an entry more that is excused
+excused_push : (t : Terms) (p : Past) (h : List Entry) (e : Entry) → AreExcused t p h → NeedsExcuse t (past_of t p h).state e.event e.outcome → AreExcused t p (h ++ e ∷ [])
+excused_push t p [] e excused last = (last, tt)
+excused_push t p (x ∷ h) e excused last = (excused.0, excused_push t (past_after t p x) h e excused.1 last)
 
 -- of the one user there is
 there_is_one : (users user : ℕ) → users ≡ 1 → user < users → user ≡ 0
@@ -85,8 +99,9 @@ module _ {K : Type 0} (told : K → Told) (faults : K → Faults) where
   -- a tenant's history grows by an entry
   history_grows : (t : Terms) (shelf : K) (old new : TenantView K) (h : List Entry) (e : Entry) → HasHistory told faults t shelf old h → new.terms ≡ old.terms → Stands told faults new (h ++ e ∷ [])
       → IsSameKind (told old.home.shelf) (told new.home.shelf) → Follows (faults old.home.shelf) (faults new.home.shelf) → e.before ≡ count_in faults old → e.after ≡ count_in faults new
+      → (IsTrue (tells (told old.home.shelf)) → IsUndamaged e.outcome) → (IsTrue ((told old.home.shelf).void) → NeedsExcuse t (past_of t first_past h).state e.event e.outcome)
       → HasHistory told faults t shelf new (h ++ e ∷ [])
-  history_grows t shelf old new h e has terms stands kind follows before after =
+  history_grows t shelf old new h e has terms stands kind follows before after clean excuse =
       let rises : count_in faults old ≤ count_in faults new = follows.later in
       let caused : IsCaused e.outcome e.before e.after = (All-pop (λ (x : Entry). IsCaused x.outcome x.before x.after) (h ++ e ∷ []) h (Some e) refl stands.caused).1 in
       record {
@@ -96,7 +111,15 @@ module _ {K : Type 0} (told : K → Told) (faults : K → Faults) where
         follows = follows_on _ _ _ has.follows follows;
         counts = counts_push (faults shelf).count (count_in faults old) (count_in faults new) h e has.counts before (omega (arith, rises, before, after)) after;
         few = few_push (faults shelf).count (count_in faults old) (count_in faults new) h e caused before (omega (arith, rises, before, after)) after has.few;
+        undamaged = λ is. All-push (λ (x : Entry). IsUndamaged x.outcome) h e (has.undamaged is) (clean (has.kind.tells ∙ is));
+        excused = λ is. excused_push t first_past h e (has.excused is) (excuse (has.kind.void ∙ is));
       }
+
+  -- a tenant's event over a void store, in a state that it stands for
+  excuse_at : (tenant : TenantView K) (event : Event) (outcome : Outcome) (s : State) → ExcusesVoid told tenant event outcome → IsTrue ((told tenant.home.shelf).void)
+      → Sits s tenant → Lies (told tenant.home.shelf) s tenant → NeedsExcuse tenant.terms s event outcome
+  excuse_at tenant (Ask moment request) outcome s excuses is sits lies = λ none needs. excuses is s sits lies none needs
+  excuse_at tenant (Grant slice number size) outcome s excuses is sits lies = tt
 
   -- a tenant that is as before keeps its store
   pub keeps_store : (old new : CoreView K) → new.tenant ≡ old.tenant → KeepsStore told faults old new
@@ -168,12 +191,23 @@ module _ {K : Type 0} (told : K → Told) (faults : K → Faults) where
       let history : history_of shape (run ++ e ∷ []) 0 ≡ h ++ last ∷ [] = ap (λ (c : CoreState). history_at c 0) now ∙ grown_is s 0 event e there in
       let before : last.before ≡ count_in faults old.tenant = ap (λ (x : Entry). x.before) entry in
       let after : last.after ≡ count_in faults new.tenant = ap (λ (x : Entry). x.after) entry in
+      let told_of = told old.tenant.home.shelf in
+      let u = old.tenant.terms in
+      let before_now : InOrder u first_past h = subst (λ (u : Terms). InOrder u first_past h) (sym one.0) (sound.users 0).in_order in
+      let at = (past_of u first_past h).state in
+      let answered : last.outcome ≡ outcome = ap (λ (x : Entry). x.outcome) entry in
+      let clean : IsTrue (tells told_of) → IsUndamaged last.outcome =
+      λ is. subst IsUndamaged (sym answered) (grows.telling is at (one.1.lies (or_left (tells told_of) told_of.void is) before_now)) in
+      let excuse : IsTrue (told_of.void) → NeedsExcuse t (past_of t first_past h).state event last.outcome =
+      λ is. subst (NeedsExcuse t (past_of t first_past h).state event) (sym answered)
+      (subst (λ (u : Terms). NeedsExcuse u (past_of u first_past h).state event outcome) one.0
+      (excuse_at old.tenant event outcome at grows.void is (one.1.sits before_now) (one.1.lies (or_right (tells told_of) told_of.void is) before_now))) in
       record {
         is_run = run-push old run e (Own 0 event) stands.is_run turn tt (own_sound shape s 0 event e own sound fresh sound_now);
         pool = stands.pool ∙ ap (λ (c : CoreState). sized shape.slice c.pool) (sym now);
         hand = is_hand ∙ ap (λ (c : CoreState). sized shape.slice c.hand) (sym now);
         tenants = one_grows shape run (run ++ e ∷ []) shelves old.tenant new.tenant
-            (λ shelf has. subst (HasHistory told faults t shelf new.tenant) (sym history) (history_grows t shelf old.tenant new.tenant h last has grows.terms grew grows.store.kind grows.store.counts before after)) stands.tenants;
+            (λ shelf has. subst (HasHistory told faults t shelf new.tenant) (sym history) (history_grows t shelf old.tenant new.tenant h last has grows.terms grew grows.store.kind grows.store.counts before after clean excuse)) stands.tenants;
       }
 
   -- the histories of a run that grows by no user's own event
@@ -327,6 +361,8 @@ module _ {K : Type 0} (told : K → Told) (faults : K → Faults) where
         follows = subst (λ (k : K). Follows (faults shelf) (faults k)) (sym same) (follows_itself (faults shelf));
         counts = ap (λ (k : K). (faults k).count) (sym same);
         few = let as_before = ap (λ (k : K). (faults k).count) same in omega (arith, as_before);
+        undamaged = λ is. All-nil (λ (e : Entry). IsUndamaged e.outcome);
+        excused = λ is. tt;
       } in
       record {
         is_run = first_sound core.shape;

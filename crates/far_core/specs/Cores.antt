@@ -1,18 +1,20 @@
 -- What contracts see of a core, and which run it stands for.
-use Rattle.std.specs.Prelude.{◌≡◌, ℕ, ◌+◌, ◌-◌, ◌^◌, ◌≤◌, nat_lt, min, count_by, ◌&&◌, not, Bool, true, false, List, [], ◌∷◌, ◌++◌, map, if◌then◌else◌, IsTrue}
+use Rattle.std.specs.Prelude.{◌≡◌, ℕ, ◌+◌, ◌-◌, ◌^◌, ◌≤◌, nat_lt, min, count_by, ◌&&◌, not, Bool, true, false, List, [], ◌∷◌, ◌++◌, map, All, if◌then◌else◌, IsTrue, IsNone}
 use Rattle.far_io.specs.Faults.{Faults, Follows}
 use Rattle.karma_rule.specs.declared.shape.Shape.{Shape}
 use Rattle.slice_seq.specs.Slice.{SliceView}
-use Rattle.shelf_link.specs.Told.{Told, IsSameKind, is_sure}
+use Rattle.shelf_link.specs.Told.{Told, IsSameKind, tells, is_sure}
 use Rattle.far_words.specs.Moves.{MovesView}
 use Rattle.far_asks.specs.declared.request.Outcome.{Outcome}
 use Rattle.far_asks.specs.declared.request.Outcome.TheVariants.{Reply as Replied, Slice, PoolEmpty}
 use Rattle.far_asks.specs.declared.request.Reply.TheVariants.{StoreFault}
-use Rattle.far_history.specs.Entries.{Event, Grant, Entry}
-use Rattle.far_history.specs.Histories.{Terms, State, first_past, fits}
+use Rattle.far_history.specs.Entries.{Event, Ask, Grant, Entry}
+use Rattle.far_history.specs.Answers.{refusal}
+use Rattle.far_history.specs.Histories.{Terms, State, Past, past_after, first_past, fits}
 use Rattle.far_history.specs.Legal.{IsLegalHistory}
 use Rattle.tenant_world.specs.Views.{TenantView, count_in, terms_of, entry_from, hands_back}
 use Rattle.tenant_world.specs.Standing.{Sits, Stands}
+use Rattle.tenant_world.specs.Telling.{IsUndamaged, NeverDamaged, NeedsStore, IsExcused, ExcusesVoid}
 use Rattle.far_core.specs.declared.service.CoreEvent.{CoreEvent}
 use Rattle.far_core.specs.declared.service.CoreEvent.TheVariants.{Ask as Asking, Draw, Grant as Granting}
 use Rattle.far_core.specs.Runs.{CoreEntry, first_core, core_of, history_of, IsCoreRun}
@@ -69,9 +71,25 @@ is_store_fault outcome = false
 abbrev pub store_faults : List Entry → ℕ
 store_faults h = count_by (λ e. is_store_fault e.outcome) h
 
+-- no event was answered that a parked block is damaged
+abbrev pub AreUndamaged : List Entry → Type 0
+AreUndamaged h = All (λ e. IsUndamaged e.outcome) h
+
+-- a request that can't be done without the store is excused, unless plain names and contents refuse it
+abbrev pub NeedsExcuse : Terms → State → Event → Outcome → Type 0
+NeedsExcuse t s (Ask moment request) outcome =
+    IsNone (refusal t.size s.world request) → NeedsStore t s request → IsExcused outcome
+NeedsExcuse t s event outcome = Unit {0}
+
+-- and so is each of a history, in the state that the entries before it make
+abbrev pub AreExcused : Terms → Past → List Entry → Type 0
+AreExcused t p [] = Unit {0}
+AreExcused t p (e ∷ h) = NeedsExcuse t p.state e.event e.outcome × AreExcused t (past_after t p e) h
+
 -- A tenant over the store that was handed in has this history: it stands for it, over a store of the same kind, whose
 -- counts of faults went from those of the store that was handed in to its own by the history's entries. So no more events
--- were answered that the store failed than its count rose by, which stands still at the greatest u64.
+-- were answered that the store failed than its count rose by, which stands still at the greatest u64. Where the store that
+-- was handed in tells its content nothing is answered as damaged, and where it is void nothing is done that needs the store.
 pub record HasHistory {K : Type 0} (told : K → Told) (faults : K → Faults) (t : Terms) (shelf : K) (tenant : TenantView K)
     (h : List Entry) : Type 0 where
   pub terms : tenant.terms ≡ t
@@ -80,6 +98,8 @@ pub record HasHistory {K : Type 0} (told : K → Told) (faults : K → Faults) (
   pub follows : Follows (faults shelf) (faults tenant.home.shelf)
   pub counts : CountsGo (faults shelf).count h (count_in faults tenant)
   pub few : min ((faults shelf).count + store_faults h) (2 ^ 64 - 1) ≤ count_in faults tenant
+  pub undamaged : IsTrue (tells (told shelf)) → AreUndamaged h
+  pub excused : IsTrue ((told shelf).void) → AreExcused t first_past h
 
 -- there is a tenant over each of the stores that were handed in, and they have the histories of the users from this one on
 abbrev pub HaveHistories : {K : Type 0} → (K → Told) → (K → Faults) → Shape → List CoreEntry → ℕ → List K → List (TenantView K) → Type 0
@@ -129,6 +149,8 @@ pub record GrowsTenant {K : Type 0} (told : K → Told) (faults : K → Faults) 
   pub stands : (h : List Entry) → Stands told faults old.tenant h → Stands told faults new.tenant
       (h ++ entry_from event outcome new.moves (count_in faults old.tenant) (count_in faults new.tenant) ∷ [])
   pub store : KeepsStore told faults old new
+  pub telling : NeverDamaged told old.tenant outcome
+  pub void : ExcusesVoid told old.tenant event outcome
 
 -- the slice on top of the hand goes to the tenant. One that the tenant hands back stays in the hand, and none that fits
 -- is handed back
